@@ -1,0 +1,8 @@
+pub mod Parts
+pub mod Ring
+pub mod Machine
+pub mod Rounding
+pub mod Enclosure
+pub mod Size
+pub mod Width
+mod Examples

@@ -1,0 +1,4 @@
+pub mod Rounding
+pub mod Stages
+pub mod Fraction
+pub mod Fitting
