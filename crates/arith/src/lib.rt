@@ -7,6 +7,13 @@ ghost use Rattle.arith.specs.Rounding.{divDown, divUp};
 ghost use Rattle.arith.specs.Stages.{smaller, larger, exactly, sumOf, differenceOf, scaledBy, hullOf, productOf, dividedBy};
 ghost use Rattle.arith.specs.Fitting.{SumFits, DifferenceFits, ScaledFits, ProductFits};
 
+// A number that is not negative, as a signed one.
+pub fn whole(n: u32) -> i64
+    ensures { λ r. ⌜ r ≡ pos n ⌝ }
+{
+    n as i64
+}
+
 // n / d rounded down.
 pub fn div_down(n: i64, d: i64) -> i64
     requires positive { ⌜ pos 0 <ℤ d ⌝ }

@@ -4,10 +4,10 @@ use Rattle.arith.proofs.smaller.Statement.{statement}
 use Rattle.arith.proofs.smaller.Tie as tie
 
 returns : tie.Need-returns
-returns c = let f = c .before .fits in simp (toZ-ofZ, f .m, f .n, simp (toZ-ofZ, f .m, f .n) at (c .if1 .taken))
+returns c = let f = c .before .fits in simp (toZ-ofZ, f .m, simp (toZ-ofZ, f .m, f .n) at (c .if1 .taken))
 
 returns-2 : tie.Need-returns-2
-returns-2 c = let f = c .before .fits in simp (toZ-ofZ, f .m, f .n, simp (toZ-ofZ, f .m, f .n) at (c .if1 .left))
+returns-2 c = let f = c .before .fits in simp (toZ-ofZ, f .n, simp (toZ-ofZ, f .m, f .n) at (c .if1 .left))
 
 pub smaller-spec : {M : Type 1} → statement M
 smaller-spec = tie.close (tie.spec returns returns-2)
