@@ -31,3 +31,19 @@ refused-not p = let z : _≡_ {A = ℕ} 0 1 = cc in omega arith
 pub checked-holds : (holds : Bool) (refusal : Refusal) (rest : Judged) → checked holds refusal rest ≡ Accepted → (holds ≡ true) × (rest ≡ Accepted)
 checked-holds true refusal rest e = (refl, e)
 checked-holds false refusal rest e = absurd (refused-not e)
+
+-- all checks of a list hold
+abbrev pub AllHold : List Check → Type 0
+AllHold [] = Unit {0}
+AllHold (c ∷ cs) = (c .holds ≡ true) × AllHold cs
+
+pub judged-holds : (cs : List Check) → judgedBy cs ≡ Accepted → AllHold cs
+judged-holds [] e = tt
+judged-holds (c ∷ cs) e =
+    let h = checked-holds (c .holds) (c .refusal) (judgedBy cs) e in
+    (h .0, judged-holds cs (h .1))
+
+-- where a stage and what follows it accept, both do
+pub then-holds : (a b : Judged) → andThen a b ≡ Accepted → (a ≡ Accepted) × (b ≡ Accepted)
+then-holds Accepted b e = (refl, e)
+then-holds (Refused refusal) b e = absurd (refused-not e)
