@@ -1,0 +1,43 @@
+-- What an accepted trace tells, which every stage after the judging rests on: its count, its length, the range of each second. Assumes nothing.
+use mathlib.Core.Path.{_≡_, refl}
+use mathlib.Core.Bool.{Bool, true, false, _&&_, false≢true}
+use mathlib.Core.List.{List}
+use Prim.Native.Nat.{ℕ, _+_, _*_, _<_}
+use lib.ListN.{length}
+use lib.Dec.{eqb, leb}
+use borrow.Author.Tests.{leb-true, eqb-true}
+use Rattle.refusal.specs.declared.Judged.the-variants.{Accepted}
+use Rattle.refusal.specs.declared.Refusal.the-variants.{Header, Count, Length}
+use Rattle.refusal.specs.Judging.{checked}
+use Rattle.refusal.proofs.Judging.{checked-holds, refused-not}
+use Rattle.trace.specs.House.{headed, countOf, speedAt, flagsAt, zeroAt}
+use Rattle.trace.specs.Judging.{countable, secondGood, judgeSeconds, judgeTrace, Sound}
+use Rattle.walk.proofs.Walk.{all-good}
+
+-- the two of a conjunction
+pub both : (a b : Bool) → a && b ≡ true → (a ≡ true) × (b ≡ true)
+both true b e = (refl, e)
+both false b e = absurd (false≢true e)
+
+pub accepted-sound : (trace : List ℕ) → judgeTrace trace ≡ Accepted → Sound trace
+unfolding judgeTrace
+accepted-sound trace e =
+    let n = countOf trace in
+    let seconds = judgeSeconds trace 0 n in
+    let lengths = checked (eqb (length trace) (8 + 4 * n)) Length seconds in
+    let counts = checked (countable n) Count lengths in
+    let past-head = checked-holds (headed trace) Header counts e in
+    let past-count = checked-holds (countable n) Count lengths (past-head .1) in
+    let past-length = checked-holds (eqb (length trace) (8 + 4 * n)) Length seconds (past-count .1) in
+    let counted = both (leb 1 n) (leb n 2000) (past-count .0) in
+    let slow : ℕ → Bool = λ k. leb (speedAt trace k) 2000 in
+    let known : ℕ → Bool = λ k. leb (flagsAt trace k) 15 in
+    let good : (k : ℕ) → k < n → secondGood trace k ≡ true = all-good (secondGood trace) _ _ Accepted (λ k. refused-not) n (past-length .1) in
+    let ranges : (k : ℕ) → k < n → (slow k ≡ true) × (known k ≡ true) = λ k l. both (slow k) (known k) (both (slow k && known k) (eqb (zeroAt trace k) 0) (good k l) .0) in
+    record {
+      some = leb-true 1 n (counted .0);
+      few = leb-true n 2000 (counted .1);
+      exact = eqb-true (length trace) (8 + 4 * n) (past-length .0);
+      speeds = λ k l. leb-true (speedAt trace k) 2000 (ranges k l .0);
+      flags = λ k l. leb-true (flagsAt trace k) 15 (ranges k l .1);
+    }

@@ -1,0 +1,66 @@
+-- The house file (01, Trace), byte by byte: 8 bytes of head, then 4 bytes a second. Seconds count from 0 here.
+use Prim.Native.Nat.{ℕ, _+_, _*_, _/_, _%_}
+use mathlib.Core.Bool.{Bool, _&&_}
+use mathlib.Core.List.{List}
+use lib.ListN.{getD, length}
+use lib.Dec.{eqb, leb}
+
+-- 01, Trace: "16 bits, little-endian"
+abbrev pub sixteenAt : List ℕ → ℕ → ℕ
+sixteenAt bytes at = getD bytes at 0 + 256 * getD bytes (at + 1) 0
+
+-- 01, Trace: "bytes W T R, one zero byte, version (16 bits, little-endian, 1)"; W is 87, T 84, R 82. The head has 8 bytes
+abbrev pub headed : List ℕ → Bool
+headed trace =
+    leb 8 (length trace)
+    && (eqb (getD trace 0 0) 87 && eqb (getD trace 1 0) 84 && eqb (getD trace 2 0) 82 && eqb (getD trace 3 0) 0 && eqb (sixteenAt trace 4) 1)
+
+-- 01, Trace: "count of seconds"
+abbrev pub countOf : List ℕ → ℕ
+countOf trace = sixteenAt trace 6
+
+-- 01, Trace: "speed in 0.1 km/h"
+abbrev pub speedAt : List ℕ → ℕ → ℕ
+speedAt trace k = sixteenAt trace (4 * k + 8)
+
+-- 01, Trace: "flags"
+abbrev pub flagsAt : List ℕ → ℕ → ℕ
+flagsAt trace k = getD trace (4 * k + 10) 0
+
+-- 01, Trace: the "zero" after the flags
+abbrev pub zeroAt : List ℕ → ℕ → ℕ
+zeroAt trace k = getD trace (4 * k + 11) 0
+
+-- 01, Trace: "bits 0-1 phase (0 stop, ..)"
+abbrev pub stop : ℕ → Bool
+stop flags = eqb (flags % 4) 0
+
+-- 01, Trace: "1 acceleration"
+abbrev pub acceleration : ℕ → Bool
+acceleration flags = eqb (flags % 4) 1
+
+-- 01, Trace: "2 cruise"
+abbrev pub cruise : ℕ → Bool
+cruise flags = eqb (flags % 4) 2
+
+-- 01, Trace: "3 deceleration"
+abbrev pub deceleration : ℕ → Bool
+deceleration flags = eqb (flags % 4) 3
+
+-- 01, Trace: "bit 2 no gear-shift"
+abbrev pub noShift : ℕ → Bool
+noShift flags = eqb (flags / 4 % 2) 1
+
+-- 01, Trace: "bit 3 no 1. gear"
+abbrev pub noFirst : ℕ → Bool
+noFirst flags = eqb (flags / 8 % 2) 1
+
+-- the same of a second of a trace
+abbrev pub stopAt : List ℕ → ℕ → Bool
+stopAt trace k = stop (flagsAt trace k)
+
+abbrev pub accelerationAt : List ℕ → ℕ → Bool
+accelerationAt trace k = acceleration (flagsAt trace k)
+
+abbrev pub noFirstAt : List ℕ → ℕ → Bool
+noFirstAt trace k = noFirst (flagsAt trace k)

@@ -1,0 +1,48 @@
+-- 01, Refusal numbers, 1 to 4 and 15: one trace judged, and a pair of traces.
+use Prim.Native.Nat.{ℕ, _+_, _*_, _≤_, _<_}
+use mathlib.Core.Bool.{Bool, _&&_}
+use mathlib.Core.Path.{_≡_}
+use mathlib.Core.List.{List}
+use lib.ListN.{length}
+use lib.Dec.{eqb, leb}
+use Rattle.refusal.specs.declared.Refusal.the-variants.{Header, Count, Length, Second, PairCounts}
+use Rattle.refusal.specs.declared.Judged.{Judged}
+use Rattle.refusal.specs.declared.Judged.the-variants.{Accepted, Refused}
+use Rattle.refusal.specs.Judging.{checked, andThen}
+use Rattle.walk.specs.Walk.{scan}
+use Rattle.trace.specs.House.{headed, countOf, speedAt, flagsAt, zeroAt}
+
+-- 2: "count not 1 to 2,000"
+abbrev pub countable : ℕ → Bool
+countable n = leb 1 n && leb n 2000
+
+-- 4: "speed, flags or fourth byte wrong": the speed 0 to 2,000, the bits above bit 3 zero, the fourth byte zero
+abbrev pub secondGood : List ℕ → ℕ → Bool
+secondGood trace k = leb (speedAt trace k) 2000 && leb (flagsAt trace k) 15 && eqb (zeroAt trace k) 0
+
+-- the first wrong one of the n seconds from k on. Its place counts from 1
+abbrev pub judgeSeconds : List ℕ → ℕ → ℕ → Judged
+judgeSeconds trace = scan (secondGood trace) (λ k. Refused (Second (k + 1))) (λ k. Accepted)
+
+-- 1 to 4, the lowest number first
+unfoldable pub judgeTrace : List ℕ → Judged
+judgeTrace trace =
+    checked (headed trace) Header
+    (checked (countable (countOf trace)) Count
+    (checked (eqb (length trace) (8 + 4 * countOf trace)) Length
+    (judgeSeconds trace 0 (countOf trace))))
+
+-- "For a pair of traces, 1 to 4 of the normal, then of the reduced, then 15"
+unfoldable pub judgePair : List ℕ → List ℕ → Judged
+judgePair normal reduced =
+    andThen (judgeTrace normal)
+    (andThen (judgeTrace reduced)
+    (checked (eqb (countOf normal) (countOf reduced)) PairCounts Accepted))
+
+-- what an accepted trace tells of its numbers
+pub record Sound (trace : List ℕ) : Type 0 where
+  pub some : 1 ≤ countOf trace
+  pub few : countOf trace ≤ 2000
+  pub exact : length trace ≡ 8 + 4 * countOf trace
+  pub speeds : (k : ℕ) → k < countOf trace → speedAt trace k ≤ 2000
+  pub flags : (k : ℕ) → k < countOf trace → flagsAt trace k ≤ 15

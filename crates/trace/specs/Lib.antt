@@ -1,0 +1,3 @@
+pub mod House
+pub mod Judging
+pub mod Choice

@@ -1,0 +1,120 @@
+// A trace of the house (01, Trace): judged whole, and chosen from a pair. Seconds count from 0 in this file, and from 1 where a refusal names one.
+use refusal::Judged;
+use refusal::Refusal;
+ghost use mathlib.Core.Path.{_≡_};
+ghost use Prim.Native.Nat.{_+_, _*_, _<_, _≤_};
+ghost use lib.ListN.{length};
+ghost use Rattle.trace.specs.House.{sixteenAt, headed, countOf, speedAt};
+ghost use Rattle.trace.specs.Judging.{secondGood, judgeSeconds, judgeTrace, judgePair};
+ghost use Rattle.trace.specs.Choice.{Chosen};
+
+// That a byte is below 256 is said here once, for all sums of bytes.
+fn wide(byte: u8) -> usize
+    ensures { λ r. ⌜ (r ≡ byte) × (byte < 256) ⌝ }
+{
+    byte as usize
+}
+
+// 16 bits, little-endian.
+fn sixteen(bytes: &[u8], at: usize) -> usize
+    requires { ⌜ at + 1 < length (now bytes) ⌝ }
+    ensures { λ r. ⌜ (r ≡ sixteenAt (now (bytes .entry)) at) × (r < 65536) ⌝ }
+{
+    wide(bytes[at]) + 256 * wide(bytes[at + 1])
+}
+
+// The count of seconds, of a trace that has a head.
+pub fn count_of(trace: &[u8]) -> usize
+    requires { ⌜ 8 ≤ length (now trace) ⌝ }
+    ensures { λ r. ⌜ (r ≡ countOf (now (trace .entry))) × (r < 65536) ⌝ }
+{
+    sixteen(trace, 6)
+}
+
+// The speed of second k, in 0.1 km/h.
+pub fn speed_at(trace: &[u8], k: usize) -> usize
+    requires { ⌜ 4 * k + 12 ≤ length (now trace) ⌝ }
+    ensures { λ r. ⌜ (r ≡ speedAt (now (trace .entry)) k) × (r < 65536) ⌝ }
+{
+    sixteen(trace, 4 * k + 8)
+}
+
+// Of a trace with room for a head: the mark, the zero byte and the version.
+fn has_head(trace: &[u8]) -> bool
+    requires { ⌜ 8 ≤ length (now trace) ⌝ }
+    ensures { λ r. ⌜ r ≡ headed (now (trace .entry)) ⌝ }
+{
+    let version = sixteen(trace, 4);
+    (trace[0] == b'W') & (trace[1] == b'T') & (trace[2] == b'R') & (trace[3] == 0) & (version == 1)
+}
+
+fn is_good(trace: &[u8], k: usize) -> bool
+    requires { ⌜ 4 * k + 12 ≤ length (now trace) ⌝ }
+    ensures { λ r. ⌜ r ≡ secondGood (now (trace .entry)) k ⌝ }
+{
+    let speed = speed_at(trace, k);
+    (speed <= 2000) & (trace[4 * k + 10] <= 15) & (trace[4 * k + 11] == 0)
+}
+
+// The first wrong one of the n seconds.
+fn judge_seconds(trace: &[u8], n: usize) -> Judged
+    requires { ⌜ (8 + 4 * n ≤ length (now trace)) × (n ≤ 2000) ⌝ }
+    ensures { λ r. ⌜ r ≡ judgeSeconds (now (trace .entry)) 0 n ⌝ }
+{
+    let mut k = 0;
+    while k < n {
+        if !is_good(trace, k) {
+            let second = (k + 1) as u32;
+            return Judged::Refused(Refusal::Second { second });
+        }
+        k += 1;
+    }
+    Judged::Accepted
+}
+
+// Refusals 1 to 4.
+pub fn judge(trace: &[u8]) -> Judged
+    ensures { λ r. ⌜ r ≡ judgeTrace (now (trace .entry)) ⌝ }
+{
+    if trace.len() < 8 {
+        return Judged::Refused(Refusal::Header);
+    }
+    if !has_head(trace) {
+        return Judged::Refused(Refusal::Header);
+    }
+    let n = count_of(trace);
+    if !((1 <= n) & (n <= 2000)) {
+        return Judged::Refused(Refusal::Count);
+    }
+    if trace.len() != 8 + 4 * n {
+        return Judged::Refused(Refusal::Length);
+    }
+    judge_seconds(trace, n)
+}
+
+// Refusals 1 to 4 of the normal trace, then of the reduced one, then 15.
+pub fn judge_pair(normal: &[u8], reduced: &[u8]) -> Judged
+    ensures { λ r. ⌜ r ≡ judgePair (now (normal .entry)) (now (reduced .entry)) ⌝ }
+{
+    let first = judge(normal);
+    let Judged::Accepted = first else {
+        return first;
+    };
+    let second = judge(reduced);
+    let Judged::Accepted = second else {
+        return second;
+    };
+    let n = count_of(normal);
+    let m = count_of(reduced);
+    refusal::check(n == m, Refusal::PairCounts, Judged::Accepted)
+}
+
+// The one of two lent traces that the bench's reduced-speed switch names, or the empty first part of the normal one.
+pub fn choose<'a>(normal: &'a [u8], reduced: &'a [u8], switch: bool) -> &'a [u8]
+    ensures { λ r. ⌜ Chosen (normal .entry) (reduced .entry) switch r ⌝ }
+{
+    let Judged::Accepted = judge_pair(normal, reduced) else {
+        return &normal[..0];
+    };
+    if switch { reduced } else { normal }
+}
