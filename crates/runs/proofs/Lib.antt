@@ -1,0 +1,4 @@
+pub mod Runs
+pub mod Fuel
+pub mod Frame
+pub mod Examples
