@@ -1,6 +1,6 @@
 -- What an accepted trace tells, which every stage after the judging rests on: its count, its length, the range of each second. Assumes nothing.
-use mathlib.Core.Path.{_≡_, refl}
-use mathlib.Core.Bool.{Bool, true, false, _&&_, false≢true}
+use mathlib.Core.Path.{_≡_}
+use mathlib.Core.Bool.{Bool, true, _&&_}
 use mathlib.Core.List.{List}
 use Prim.Native.Nat.{ℕ, _+_, _*_, _<_}
 use lib.ListN.{length}
@@ -9,15 +9,10 @@ use borrow.Author.Tests.{leb-true, eqb-true}
 use Rattle.refusal.specs.declared.Judged.the-variants.{Accepted}
 use Rattle.refusal.specs.declared.Refusal.the-variants.{Header, Count, Length}
 use Rattle.refusal.specs.Judging.{checked}
-use Rattle.refusal.proofs.Judging.{checked-holds, refused-not}
+use Rattle.refusal.proofs.Judging.{both, checked-holds, refused-not}
 use Rattle.trace.specs.House.{headed, countOf, speedAt, flagsAt, zeroAt}
 use Rattle.trace.specs.Judging.{countable, secondGood, judgeSeconds, judgeTrace, Sound}
 use Rattle.walk.proofs.Walk.{all-good}
-
--- the two of a conjunction
-pub both : (a b : Bool) → a && b ≡ true → (a ≡ true) × (b ≡ true)
-both true b e = (refl, e)
-both false b e = absurd (false≢true e)
 
 pub accepted-sound : (trace : List ℕ) → judgeTrace trace ≡ Accepted → Sound trace
 unfolding judgeTrace

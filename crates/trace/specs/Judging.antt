@@ -8,13 +8,13 @@ use lib.Dec.{eqb, leb}
 use Rattle.refusal.specs.declared.Refusal.the-variants.{Header, Count, Length, Second, PairCounts}
 use Rattle.refusal.specs.declared.Judged.{Judged}
 use Rattle.refusal.specs.declared.Judged.the-variants.{Accepted, Refused}
-use Rattle.refusal.specs.Judging.{checked, andThen}
+use Rattle.refusal.specs.Judging.{within, checked, andThen}
 use Rattle.walk.specs.Walk.{scan}
 use Rattle.trace.specs.House.{headed, countOf, speedAt, flagsAt, zeroAt}
 
 -- 2: "count not 1 to 2,000"
 abbrev pub countable : ℕ → Bool
-countable n = leb 1 n && leb n 2000
+countable n = within 1 2000 n
 
 -- 4: "speed, flags or fourth byte wrong": the speed 0 to 2,000, the bits above bit 3 zero, the fourth byte zero
 abbrev pub secondGood : List ℕ → ℕ → Bool
