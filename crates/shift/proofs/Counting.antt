@@ -1,0 +1,23 @@
+-- The laws of `count`: one place more, and no more than there are. Assumes nothing.
+use mathlib.Core.Path.{_≡_, ap}
+use mathlib.Core.Bool.{Bool, true, false, cond}
+use Prim.Native.Nat.{ℕ, zero, suc, _+_, _≤_}
+use native.Mathlib.Numerals.{add-one}
+use native.Mathlib.Omega.{arith}
+use Rattle.arith.specs.declared.Ends.{Ends}
+use Rattle.shift.specs.Speeds.{count, above, tooClose, oneOf}
+
+one-most : (holds : Bool) → cond holds 1 0 ≤ 1
+one-most true = omega arith
+one-most false = omega arith
+
+pub one-of-most : (speed ndv : ℕ) (side : Ends) → (oneOf speed ndv side .above ≤ 1) × (oneOf speed ndv side .close ≤ 1)
+one-of-most speed ndv side = (one-most (above speed ndv side), one-most (tooClose speed ndv side))
+
+module _ (holds : ℕ → Bool) where
+  pub count-more : (n : ℕ) → count holds (n + 1) ≡ count holds n + cond (holds n) 1 0
+  count-more n = ap (count holds) (add-one n)
+
+  pub count-most : (n : ℕ) → count holds n ≤ n
+  count-most zero = omega arith
+  count-most (suc n) = omega (arith, count-most n, one-most (holds n))

@@ -1,0 +1,72 @@
+-- How large the two sides can be, and what an accepted sheet gives the shift speeds. Assumes nothing.
+use Prim.Native.Nat.{ℕ, _+_, _-_, _*_, _≤_, _<_}
+use native.Mathlib.Nat.{le-refl}
+use native.Mathlib.Omega.{arith}
+use mathlib.Core.List.{List}
+use lib.Dec.{lit<, lit≤}
+use lib.IntN.{pos, _*ℤ_}
+use mir.Syntax.{w64}
+use mir.Val.{SFits}
+use Rattle.arith.specs.declared.Ends.{Ends}
+use Rattle.arith.specs.Stages.{exactly, differenceOf, scaledBy}
+use Rattle.arith.specs.Fitting.{SumFits, DifferenceFits, ScaledFits, Sized}
+use Rattle.arith.proofs.Size.{exactly-size, scaled-size, difference-size, wider-size, scaled-fits, sum-fits, difference-fits}
+use Rattle.vehicle.specs.declared.VehicleSheet.{VehicleSheet}
+use Rattle.vehicle.specs.Sheet.{Sound}
+use Rattle.shift.specs.Exponential.{Exponent}
+use Rattle.shift.specs.Speeds.{powerOf, shiftOf, InRange, Usable}
+use Rattle.shift.specs.Room.{SideFits}
+use Rattle.shift.proofs.Terms.{exponential-size}
+
+-- ---- a side
+module _ {part : Ends} {span idle : ℕ} (f : SideFits part span idle) where
+  pub rise-fits : ScaledFits (pos span) part
+  rise-fits = scaled-fits {m = 20000} (pos span) (lit< tt) (f .wide) (f .size)
+
+  pub foot-fits : SFits w64 (pos 42949672960000 *ℤ pos idle)
+  foot-fits = record { sfits = omega (arith, f .low) }
+
+  pub side-fits : SumFits (scaledBy (pos span) part) (exactly (pos 42949672960000 *ℤ pos idle))
+  side-fits =
+      let foot : 42949672960000 * idle ≤ 128849018880000000 = omega (arith, f .low) in
+      sum-fits {m = 20000 * 120000000000000} (lit< tt) (scaled-size (pos span) (f .wide) (f .size)) (exactly-size _ foot)
+
+-- ---- of an accepted sheet
+module _ {v : VehicleSheet} (s : Sound v) where
+  pub exponent : Exponent (19 * v .power) (100 * (v .mass + 75))
+  exponent =
+      let m = s .ranged .mass in
+      record { some = omega (arith, m); small = omega (arith, m); mild = omega (arith, s .mild) }
+
+  pub part-fits : ScaledFits (pos 5753) (powerOf v)
+  part-fits = scaled-fits (pos 5753) (lit< tt) (le-refl 5753) (exponential-size exponent)
+
+  part-size : Sized 115060000000000 (scaledBy (pos 5753) (powerOf v))
+  part-size = scaled-size (pos 5753) (le-refl 5753) (exponential-size exponent)
+
+  pub less-fits : DifferenceFits (scaledBy (pos 5753) (powerOf v)) (exactly (pos 4294967296000))
+  less-fits = difference-fits (lit< tt) part-size (exactly-size (pos 4294967296000) (le-refl 4294967296000))
+
+  less-size : Sized 119354967296000 (differenceOf (scaledBy (pos 5753) (powerOf v)) (exactly (pos 4294967296000)))
+  less-size = difference-size part-size (exactly-size (pos 4294967296000) (le-refl 4294967296000))
+
+  sided : {m : ℕ} {part : Ends} → m ≤ 120000000000000 → Sized m part → SideFits part (v .rated - v .idle) (v .idle)
+  sided h j =
+      let r = s .ranged in
+      record { size = wider-size h j; wide = omega (arith, r .rated); low = r .idle .1 }
+
+  pub higher-fits : SideFits (scaledBy (pos 5753) (powerOf v)) (v .rated - v .idle) (v .idle)
+  higher-fits = sided (lit≤ tt) part-size
+
+  pub first-fits : SideFits (differenceOf (scaledBy (pos 5753) (powerOf v)) (exactly (pos 4294967296000))) (v .rated - v .idle) (v .idle)
+  first-fits = sided (lit≤ tt) less-size
+
+  pub shift-usable : Usable (shiftOf v)
+  unfolding shiftOf
+  shift-usable =
+      let g = s .ranged .gears in
+      record { some = g .0; range = record { few = g .1; ndvs = λ i l. s .ndv i l .1 } }
+
+-- fewer gears are in range too
+pub fewer : {ndv : List ℕ} {n : ℕ} (m : ℕ) → m ≤ n → InRange ndv n → InRange ndv m
+fewer m h r = record { few = omega (arith, r .few); ndvs = λ i l. r .ndvs i (omega arith) }

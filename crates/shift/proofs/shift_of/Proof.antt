@@ -1,0 +1,55 @@
+-- `shift::shift_of` meets its contract: each stage fits by the sheet's ranges. Assumes nothing.
+use mathlib.Core.Path.{_≡_}
+use lib.IntN.{pos}
+use Rattle.arith.specs.Stages.{exactly, differenceOf, scaledBy}
+use Rattle.shift.specs.Speeds.{powerOf, firstSide, higherSide, shiftOf}
+use Rattle.shift.proofs.Sides.{exponent, part-fits, less-fits, first-fits, higher-fits}
+use borrow.Author.Needs.{needs}
+use Rattle.shift.proofs.shift_of.Statement.{statement}
+use Rattle.shift.proofs.shift_of.Tie as tie
+
+-- what the stages gave
+abbrev power-is : (c : tie.After-exponential) → c .exponential .result ≡ powerOf (c .before .before .before .args .v)
+power-is c = c .exponential .ensures
+
+part-is : (c : tie.After-scaled) → c .scaled .result ≡ scaledBy (pos 5753) (powerOf (c .before .before .before .before .args .v))
+part-is c = rw (power-is (c .before)) at (c .scaled .ensures)
+
+less-is : (c : tie.After-difference) → c .difference .result ≡ differenceOf (scaledBy (pos 5753) (powerOf (c .before .before .before .before .before .before .args .v))) (exactly (pos 4294967296000))
+less-is c = rw (part-is (c .before .before), c .before .exactly .ensures) at (c .difference .ensures)
+
+scaled-requires : tie.Need-scaled-requires
+scaled-requires c κs = rw (power-is c) (part-fits (c .before .before .before .pre))
+
+difference-requires : tie.Need-difference-requires
+difference-requires c κs = rw (part-is (c .before), c .exactly .ensures) (less-fits (c .before .before .before .before .before .pre))
+
+side-requires : tie.Need-side-requires
+side-requires c κs = rw (less-is (c .before .before)) (first-fits (c .before .before .before .before .before .before .before .before .pre))
+
+side-requires-2 : tie.Need-side-requires-2
+side-requires-2 c κs = rw (part-is (c .before .before .before .before .before)) (higher-fits (c .before .before .before .before .before .before .before .before .before .pre))
+
+returns : tie.Need-returns
+unfolding shiftOf firstSide higherSide
+returns c =
+    let d = c .before .before .before .before in
+    let first = rw (less-is d) at (c .before .side .ensures) in
+    let higher = rw (part-is (d .before .before)) at (c .side2 .ensures) in
+    rw (first, higher)
+
+pub shift-of-spec : {M : Type 1} → statement M
+shift-of-spec =
+    tie.close
+    (tie.spec
+    (λ c. search needs)
+    (λ c. search needs)
+    (λ c. search needs)
+    (λ c κs. exponent (c .before .before .pre))
+    scaled-requires
+    (λ c κs. tt)
+    difference-requires
+    (λ c. search needs)
+    side-requires
+    side-requires-2
+    returns)

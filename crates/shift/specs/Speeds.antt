@@ -1,0 +1,95 @@
+-- 01, Shift speeds: the shift speeds of a vehicle, and a speed held against them in whole numbers. Gears and shift speeds count from 0 here.
+use mathlib.Core.Bool.{Bool, true, false, not, cond, _&&_}
+use Prim.Native.Nat.{ℕ, zero, suc, _+_, _-_, _*_, _≤_, _<_}
+use mathlib.Core.List.{List}
+use lib.ListN.{getD}
+use lib.Dec.{eqb, ltb}
+use lib.IntN.{ℤ, pos, _*ℤ_}
+use lib.Signed.{ltZ}
+use Rattle.arith.specs.declared.Ends.{Ends}
+use Rattle.arith.specs.Stages.{exactly, sumOf, differenceOf, scaledBy}
+use Rattle.vehicle.specs.declared.VehicleSheet.{VehicleSheet}
+use Rattle.shift.specs.declared.Shift.{Shift}
+use Rattle.shift.specs.declared.Own.{Own}
+use Rattle.shift.specs.declared.Tally.{Tally}
+use Rattle.shift.specs.Exponential.{exponentialOf}
+
+-- "x = 19 P / (100 (m + 75))"
+abbrev pub powerOf : VehicleSheet → Ends
+powerOf v = exponentialOf (19 * v .power) (100 * (v .mass + 75))
+
+-- "10,000 x 2^32 times the engine speed in the bracket, once with each end": part (s - n) + n, where `part` is 10,000 x 2^32 times the fraction
+unfoldable pub sideOf : Ends → ℕ → ℕ → Ends
+sideOf part span idle = sumOf (scaledBy (pos span) part) (exactly (pos 42949672960000 *ℤ pos idle))
+
+-- upshift i to i+1, i = 2 to ng-1: "0.5753 e (s - n) + n"
+unfoldable pub higherSide : VehicleSheet → Ends
+higherSide v = sideOf (scaledBy (pos 5753) (powerOf v)) (v .rated - v .idle) (v .idle)
+
+-- upshift 1 to 2: "(0.5753 e - 0.1)(s - n) + n"
+unfoldable pub firstSide : VehicleSheet → Ends
+firstSide v = sideOf (differenceOf (scaledBy (pos 5753) (powerOf v)) (exactly (pos 4294967296000))) (v .rated - v .idle) (v .idle)
+
+-- all that a speed is held against: the shift speeds are one of the two sides over ndv
+unfoldable pub shiftOf : VehicleSheet → Shift
+shiftOf v = record { first = firstSide v; higher = higherSide v; ndv = v .ndv; gears = v .gears }
+
+-- "10 x speed x ndv x 2^32"
+abbrev pub leftOf : ℕ → ℕ → ℤ
+leftOf speed ndv = pos 42949672960 *ℤ (pos speed *ℤ pos ndv)
+
+-- "Below the lower side is below; above the upper side is above; at either or between is too close to call"
+abbrev pub below : ℕ → ℕ → Ends → Bool
+below speed ndv side = ltZ (leftOf speed ndv) (side .lower)
+
+abbrev pub above : ℕ → ℕ → Ends → Bool
+above speed ndv side = ltZ (side .upper) (leftOf speed ndv)
+
+abbrev pub tooClose : ℕ → ℕ → Ends → Bool
+tooClose speed ndv side = not (below speed ndv side) && not (above speed ndv side)
+
+-- the upshift from gear i. "Downshift 3 to 2: the upshift 1 to 2. Downshift i to i-1, i = 4 to ng: the upshift i-2 to i-1": the downshift speeds
+-- are the first ng-2 of the upshift speeds
+abbrev pub sideAt : Ends → Ends → ℕ → Ends
+sideAt first higher i = cond (eqb i 0) first higher
+
+abbrev pub aboveAt : Ends → Ends → List ℕ → ℕ → ℕ → Bool
+aboveAt first higher ndv speed i = above speed (getD ndv i 0) (sideAt first higher i)
+
+abbrev pub closeAt : Ends → Ends → List ℕ → ℕ → ℕ → Bool
+closeAt first higher ndv speed i = tooClose speed (getD ndv i 0) (sideAt first higher i)
+
+-- how many of the first n
+abbrev pub count : (ℕ → Bool) → ℕ → ℕ
+count holds zero = 0
+count holds (suc n) = count holds n + cond (holds n) 1 0
+
+-- one comparison as two counts, and n of them
+abbrev pub oneOf : ℕ → ℕ → Ends → Tally
+oneOf speed ndv side = record { above = cond (above speed ndv side) 1 0; close = cond (tooClose speed ndv side) 1 0 }
+
+unfoldable pub tallyOf : Ends → Ends → List ℕ → ℕ → ℕ → Tally
+tallyOf first higher ndv speed n =
+    record { above = count (aboveAt first higher ndv speed) n; close = count (closeAt first higher ndv speed) n }
+
+-- 01, Gear of each second: "Acceleration: one more than the number of upshift speeds the speed is above. Cruise, deceleration: two more than the number of
+-- downshift speeds it is above", and whether any of these comparisons is too close
+abbrev pub ownBy : Tally → ℕ → Own
+ownBy t base = record { gear = t .above + base; close = ltb 0 (t .close) }
+
+abbrev pub against : Shift → ℕ → ℕ → Tally
+against s speed n = tallyOf (s .first) (s .higher) (s .ndv) speed n
+
+unfoldable pub ownGear : Shift → Bool → ℕ → Own
+ownGear s true speed = ownBy (against s speed (s .gears - 1)) 1
+ownGear s false speed = ownBy (against s speed (s .gears - 2)) 2
+
+-- the first n gears are there and in range
+pub record InRange (ndv : List ℕ) (n : ℕ) : Type 0 where
+  pub few : n ≤ 8
+  pub ndvs : (i : ℕ) → i < n → getD ndv i 0 ≤ 100000
+
+-- what the shift speeds of an accepted sheet have
+pub record Usable (s : Shift) : Type 0 where
+  pub some : 3 ≤ s .gears
+  pub range : InRange (s .ndv) (s .gears)
