@@ -1,0 +1,56 @@
+-- `phase::set_clutch` meets its contract. The invariant: the row is that after k steps. The measure is what is left of n. Assumes nothing.
+use mathlib.Core.Path.{_≡_, refl, ap, _∙_}
+use Prim.Native.Nat.{_+_, _-_, _*_, _≤_}
+use native.Mathlib.Omega.{arith}
+use lib.ListN.{length, set, length-set}
+use Rattle.walk.specs.Walk.{inTurn}
+use Rattle.walk.proofs.Walk.{inTurn-next}
+use Rattle.trace.specs.House.{flagsAt}
+use Rattle.phase.specs.Phase.{clutchOf, clutchStep, clutched}
+use Rattle.phase.proofs.set_clutch.Statement.{statement}
+use Rattle.phase.proofs.set_clutch.Tie as tie
+
+abbrev Inv-loop : tie.InvT-loop
+Inv-loop trace row₀ n k₀ row k = (k ≤ n) × (length row ≡ length row₀) × (row ≡ inTurn (clutchStep trace) row₀ k)
+
+abbrev μ-loop : tie.MeasureT-loop
+μ-loop trace row₀ n k₀ row k = n - k
+
+loop-again : tie.Need-loop-again Inv-loop μ-loop
+loop-again c =
+    let head = c .before .before .before .before in
+    let l = head .loop in
+    let a = head .before .before .before .args in
+    let e = c .clutch-of .ensures ∙ ap (clutchOf (flagsAt (a .trace .now) (l .k))) (c .before .speed-at .ensures .0) in (
+      omega arith,
+      simp length-set (omega arith),
+      inTurn-next (clutchStep (a .trace .now)) (a .row .now) (l .k) (l .inv .2) (ap (set (l .row) (2 * l .k + 1)) e),
+    )
+
+returns : tie.Need-returns Inv-loop μ-loop
+unfolding clutched
+returns c =
+    let a = c .before .before .before .before .args in
+    let e : c .before .loop .k ≡ a .n = omega arith in
+    c .before .loop .inv .2 ∙ ap (inTurn (clutchStep (a .trace .now)) (a .row .now)) e
+
+pub set-clutch-spec : {M : Type 1} → statement M
+set-clutch-spec =
+    tie.close
+    (tie.spec
+    Inv-loop
+    μ-loop
+    (λ c. (omega arith, refl, refl))
+    (λ c. omega arith)
+    (λ c. omega arith)
+    (λ c. omega arith)
+    (λ c κs. omega arith)
+    (λ c κs. tt)
+    (λ c. omega arith)
+    (λ c. omega arith)
+    (λ c. omega arith)
+    (λ c. omega arith)
+    (λ c. omega arith)
+    loop-again
+    (λ c. c .before .loop .inv .1)
+    returns)
