@@ -1,8 +1,8 @@
 -- `print::magnitude` meets its contract: below 0, −(x + 1) and one more. Assumes nothing.
 use mathlib.Core.Path.{_≡_}
-use Prim.Native.Nat.{_+_, _^_}
+use Prim.Native.Nat.{_+_}
 use lib.Dec.{T}
-use lib.IntN.{ℤ, pos, negsuc, natAbs, _+ℤ_, _-ℤ_}
+use lib.IntN.{ℤ, pos, natAbs, _+ℤ_, _-ℤ_}
 use lib.Signed.{_<ℤ_, _≤ℤ_, nonNeg, yes-nonNeg}
 use mir.Syntax.{w64}
 use mir.Val.{Fits, SFits}
