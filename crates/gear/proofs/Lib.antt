@@ -1,0 +1,3 @@
+pub mod Buffer
+pub mod Rows
+pub mod Sheet

@@ -1,0 +1,34 @@
+-- `gear::fill` meets its contract: a refusal comes before the first store into the part. Assumes nothing.
+use mathlib.Core.Path.{sym, ap, _∙_}
+use mathlib.Core.List.{List, _++_}
+use Prim.Native.Nat.{ℕ, _*_}
+use lib.ListN.{drop, getD}
+use borrow.Author.Needs.{needs}
+use Rattle.gear.specs.Sheet.{rowFrom}
+use Rattle.gear.proofs.Rows.{row-of-own}
+use Rattle.gear.proofs.fill.Statement.{statement}
+use Rattle.gear.proofs.fill.Tie as tie
+
+returns-2 : tie.Need-returns-2
+returns-2 c =
+    let lent = c .before .before in
+    let told = lent .before .before .before in
+    let own = told .before .before .before in
+    let a = own .before .before .before .before .args in
+    let put = own .own-gears .ensures .1 (told .enum-told .given .1) in
+    let row = ap (λ (l : List ℕ). rowFrom (λ k. getD l k 0) (a .trace .now) (a .n)) put ∙ row-of-own (a .s) (a .trace .now) _ (a .n) (own .before .before .before .before .pre .0 .few) in
+    (sym (told .enum-told .given .1) ∙ own .own-gears .ensures .0, lent .into-part .ensures ∙ ap (λ (l : List ℕ). l ++ drop (2 * a .n) (a .part .now)) row)
+
+pub fill-spec : {M : Type 1} → statement M
+fill-spec =
+    tie.close
+    (tie.spec
+    (λ c. search needs)
+    (λ c κs. search needs)
+    (λ c. search needs)
+    (λ c. search needs)
+    (λ c. search needs)
+    (λ c. search needs)
+    (λ c κs. search needs)
+    (λ c. search needs)
+    returns-2)

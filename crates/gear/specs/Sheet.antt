@@ -1,0 +1,56 @@
+-- The gear sheet (01, Trace to Corrections): from a trace and a vehicle sheet to the row in a lent buffer, or to a refusal that leaves it as it was.
+use mathlib.Core.Bool.{_&&_}
+use mathlib.Core.List.{List, _++_}
+use Prim.Native.Nat.{ℕ, _-_, _*_}
+use lib.ListN.{length, take, drop}
+use lib.Dec.{leb}
+use Rattle.refusal.specs.declared.Judged.{Judged}
+use Rattle.refusal.specs.declared.Judged.the-variants.{Accepted, Refused}
+use Rattle.refusal.specs.declared.Refusal.the-variants.{Room}
+use Rattle.refusal.specs.Judging.{checked, andThen}
+use Rattle.trace.specs.House.{countOf}
+use Rattle.trace.specs.Judging.{judgeTrace}
+use Rattle.vehicle.specs.declared.VehicleSheet.{VehicleSheet}
+use Rattle.vehicle.specs.Sheet.{judgeVehicle}
+use Rattle.shift.specs.declared.Shift.{Shift}
+use Rattle.shift.specs.Speeds.{shiftOf}
+use Rattle.phase.specs.Phase.{firstRow, clutched}
+use Rattle.runs.specs.Corrected.{corrected}
+use Rattle.gear.specs.Own.{ownAt, judgeClose}
+
+-- the row from the gears outside stop: before corrections, corrected, and with its clutch
+abbrev pub rowFrom : (ℕ → ℕ) → List ℕ → ℕ → List ℕ
+rowFrom own trace n = clutched trace (corrected trace (firstRow own trace n) n) n
+
+unfoldable pub rowOf : Shift → List ℕ → ℕ → List ℕ
+rowOf s trace n = rowFrom (λ k. ownAt s trace k .gear) trace n
+
+-- 8: "start past the buffer, or under 2 x count bytes there"
+abbrev pub judgeRoom : ℕ → ℕ → ℕ → Judged
+judgeRoom count room start = checked (leb start room && leb (2 * count) (room - start)) Room Accepted
+
+-- 1 to 8
+unfoldable pub judgeSheet : List ℕ → VehicleSheet → ℕ → ℕ → Judged
+judgeSheet trace v room start =
+    andThen (judgeTrace trace) (andThen (judgeVehicle v) (judgeRoom (countOf trace) room start))
+
+-- 1 to 9
+unfoldable pub gearAnswer : List ℕ → VehicleSheet → ℕ → ℕ → Judged
+gearAnswer trace v room start =
+    andThen (judgeSheet trace v room start) (judgeClose (shiftOf v) trace 0 (countOf trace))
+
+-- what is new where a stage accepted; a refusal leaves the old
+abbrev pub ifAccepted : Judged → List ℕ → List ℕ → List ℕ
+ifAccepted Accepted new old = new
+ifAccepted (Refused refusal) new old = old
+
+-- a part with the row at its front; "bytes .. after the last second written stay"
+abbrev pub withRow : Shift → List ℕ → ℕ → List ℕ → List ℕ
+withRow s trace n part = rowOf s trace n ++ drop (2 * n) part
+
+-- the buffer at the end: "Bytes before the start and after the last second written stay"
+unfoldable pub gearBuffer : List ℕ → VehicleSheet → List ℕ → ℕ → List ℕ
+gearBuffer trace v buffer start =
+    ifAccepted (gearAnswer trace v (length buffer) start)
+    (take start buffer ++ withRow (shiftOf v) trace (countOf trace) (drop start buffer))
+    buffer

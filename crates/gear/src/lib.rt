@@ -1,0 +1,113 @@
+// The gear sheet (01, Trace to Corrections): the gear and clutch of every second of a trace, for a vehicle, into a lent buffer.
+use refusal::Judged;
+use refusal::Refusal;
+use shift::Own;
+use shift::Shift;
+use vehicle::VehicleSheet;
+ghost use mathlib.Core.Path.{_≡_};
+ghost use mathlib.Core.List.{_++_};
+ghost use Prim.Native.Nat.{_*_, _≤_};
+ghost use lib.ListN.{length, getD, drop};
+ghost use Rattle.refusal.specs.declared.Judged.the-variants.{Accepted};
+ghost use Rattle.row.specs.Row.{Room};
+ghost use Rattle.shift.specs.Speeds.{Usable};
+ghost use Rattle.gear.specs.Own.{ownSecond, judgeClose, putOwn, Ready};
+ghost use Rattle.gear.specs.Sheet.{rowFrom, judgeSheet, gearAnswer, ifAccepted, withRow, gearBuffer};
+
+// The gear that a second's speed gives; a stop second is compared with nothing.
+fn own_second(s: Shift, flags: u8, speed: u32) -> Own
+    requires { ⌜ (Usable s) × (speed ≤ 2000) ⌝ }
+    ensures { λ r. ⌜ r ≡ ownSecond s flags speed ⌝ }
+{
+    if flags % 4 == 0 {
+        return Own {
+            gear: 0,
+            close: false,
+        };
+    }
+    shift::own_gear(s, flags % 4 == 1, speed)
+}
+
+// Refusal 9, and the gears by the way, so that no comparison is made twice.
+fn own_gears(s: Shift, trace: &[u8], own: &mut [u8], n: usize) -> Judged
+    requires { ⌜ (Ready s (now trace) n) × (n ≤ length (now own)) ⌝ }
+    ensures { λ r. ⌜ (r ≡ judgeClose s (now (trace .entry)) 0 n) × (r ≡ Accepted → now (own .exit) ≡ putOwn s (now (trace .entry)) (now (own .entry)) n) ⌝ }
+{
+    let mut k = 0;
+    while k < n {
+        let speed = trace::speed_at(trace, k) as u32;
+        let second = own_second(s, trace[4 * k + 10], speed);
+        if second.close {
+            let place = (k + 1) as u32;
+            return Judged::Refused(Refusal::TooClose { second: place });
+        }
+        own[k] = second.gear;
+        k += 1;
+    }
+    Judged::Accepted
+}
+
+// The finished row, over all of a slice.
+fn finish(trace: &[u8], own: &[u8], row: &mut [u8], n: usize)
+    requires { ⌜ (Room (now trace) (now row) n) × (length (now row) ≡ 2 * n) × (n ≤ length (now own)) ⌝ }
+    ensures { λ _. ⌜ now (row .exit) ≡ rowFrom (λ k. getD (now (own .entry)) k 0) (now (trace .entry)) n ⌝ }
+{
+    phase::first_row(trace, own, row, n);
+    runs::correct(trace, row, n);
+    phase::set_clutch(trace, row, n);
+}
+
+// The row at the front of a longer part, whose other bytes stay.
+fn into_part(trace: &[u8], own: &[u8], part: &mut [u8], n: usize)
+    requires { ⌜ (Room (now trace) (now part) n) × (n ≤ length (now own)) ⌝ }
+    ensures { λ _. ⌜ now (part .exit) ≡ rowFrom (λ k. getD (now (own .entry)) k 0) (now (trace .entry)) n ++ drop (2 * n) (now (part .entry)) ⌝ }
+{
+    let m = 2 * n;
+    finish(trace, own, &mut part[..m], n);
+}
+
+// Refusal 9, or the row at the front of the part.
+fn fill(s: Shift, trace: &[u8], part: &mut [u8], n: usize) -> Judged
+    requires { ⌜ (Ready s (now trace) n) × (2 * n ≤ length (now part)) ⌝ }
+    ensures { λ r. ⌜ (r ≡ judgeClose s (now (trace .entry)) 0 n) × (now (part .exit) ≡ ifAccepted r (withRow s (now (trace .entry)) n (now (part .entry))) (now (part .entry))) ⌝ }
+{
+    let mut own = [0u8; 2000];
+    let close = own_gears(s, trace, &mut own, n);
+    let Judged::Accepted = close else {
+        return close;
+    };
+    into_part(trace, &own, part, n);
+    Judged::Accepted
+}
+
+// Refusals 1 to 8.
+fn judge_sheet(trace: &[u8], v: VehicleSheet, room: usize, start: usize) -> Judged
+    ensures { λ r. ⌜ r ≡ judgeSheet (now (trace .entry)) v room start ⌝ }
+{
+    let first = trace::judge(trace);
+    let Judged::Accepted = first else {
+        return first;
+    };
+    let second = vehicle::judge(v);
+    let Judged::Accepted = second else {
+        return second;
+    };
+    let n = trace::count_of(trace);
+    if room < start {
+        return Judged::Refused(Refusal::Room);
+    }
+    refusal::check(2 * n <= room - start, Refusal::Room, Judged::Accepted)
+}
+
+// The gears and the clutch of a trace's seconds, two bytes a second, into the buffer from the start on; or the first refusal, 1 to 9, and the
+// buffer as it was.
+pub fn write_gears(trace: &[u8], v: VehicleSheet, buffer: &mut [u8], start: usize) -> Judged
+    ensures { λ r. ⌜ (r ≡ gearAnswer (now (trace .entry)) v (length (now (buffer .entry))) start) × (now (buffer .exit) ≡ gearBuffer (now (trace .entry)) v (now (buffer .entry)) start) ⌝ }
+{
+    let judged = judge_sheet(trace, v, buffer.len(), start);
+    let Judged::Accepted = judged else {
+        return judged;
+    };
+    let n = trace::count_of(trace);
+    fill(shift::shift_of(v), trace, &mut buffer[start..], n)
+}
