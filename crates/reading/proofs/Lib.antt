@@ -1,0 +1,5 @@
+mod Product
+mod Tests
+mod Scaling
+pub mod Usable
+mod Examples

@@ -1,0 +1,62 @@
+-- What a usable reading is known to be: one whole number of units, from 0 to 16,777,216. Assumes nothing.
+use mathlib.Core.Path.{_≡_, sym, _∙_, subst}
+use mathlib.Core.Logic.{inl, inr}
+use Prim.Native.Nat.{ℕ, zero-le, _*_, _≤_}
+use native.Mathlib.Nat.{eq-zero-or-pos}
+use native.Mathlib.Omega.{arith}
+use mathlib.Core.Bool.{Bool, true, false, cond}
+use lib.IntN.{pos}
+use lib.Signed.{_≤ℤ_, leZ-yes}
+use lib.Dec.{T, leb, leb→le, le→leb}
+use lib.Ieee.{Float, nan, inf, fin, up, down}
+use Rattle.arith.specs.declared.Ends.{Ends}
+use Rattle.arith.specs.Stages.{exactly}
+use Rattle.arith.specs.Fitting.{Sized}
+use Rattle.arith.proofs.Size.{exactly-size}
+use Rattle.reading.specs.declared.Message.{Message}
+use Rattle.reading.specs.declared.Message.the-variants.{Ppm, Percent, OverRange, NotFitted}
+use Rattle.reading.specs.declared.Reading.the-variants.{Units, Unusable}
+use Rattle.reading.specs.Units.{exactValue, upToLimit, inUnits, unitsOf}
+use Rattle.reading.proofs.Scaling.{nearestOf, plain, minus}
+
+pub record Usable (e : Ends) : Type 0 where
+  pub units : ℕ
+  pub limit : units ≤ 16777216
+  pub exact : e ≡ exactly (pos units)
+
+not-usable : {e : Ends} → Unusable ≡ Units e → ⊥
+not-usable p = let z : _≡_ {A = ℕ} 0 1 = cc in omega arith
+
+-- the limit was passed
+within : (u : ℕ) {e : Ends} → upToLimit (pos u) ≡ Units e → Usable e
+within u {e} h = go (leb u 16777216) (leb→le u 16777216) h
+  where
+    go : (t : Bool) → (T t → u ≤ 16777216) → cond t (Units (exactly (pos u))) Unusable ≡ Units e → Usable e
+    go true f h = record { units = u; limit = f tt; exact = cc }
+    go false f h = absurd (not-usable h)
+
+-- a minus is left to minus zero alone
+at-float : (k : ℕ) (x : Float) {e : Ends} → inUnits (pos k) (exactValue x) ≡ Units e → Usable e
+at-float k nan h = absurd (not-usable h)
+at-float k (inf s) h = absurd (not-usable h)
+at-float k (fin false m e) h = within (nearestOf (k * (m * up e)) (down e)) (sym (plain k false m e (λ t. absurd t)) ∙ h)
+at-float k (fin true m e) h =
+    elim (eq-zero-or-pos (m * up e)) [
+      | inl z ↦ within (nearestOf (k * (m * up e)) (down e)) (sym (plain k true m e (λ t. z)) ∙ h)
+      | inr p ↦ absurd (not-usable (minus (m * up e) (pos k) (pos (down e)) p ∙ h))
+    ]
+
+pub usable : (message : Message) {e : Ends} → unitsOf message ≡ Units e → Usable e
+unfolding unitsOf
+usable (Ppm x) h = at-float 256 x h
+usable (Percent x) h = at-float 2560000 x h
+usable OverRange h = absurd (not-usable h)
+usable NotFitted h = absurd (not-usable h)
+
+-- what the stages ask of it
+pub usable-size : {e : Ends} → Usable e → Sized 16777216 e
+usable-size u = rw (u .exact) (exactly-size (pos (u .units)) (u .limit))
+
+pub usable-from-zero : {e : Ends} → Usable e → pos 0 ≤ℤ e .lower
+unfolding exactly
+usable-from-zero u = subst (λ (e : Ends). pos 0 ≤ℤ e .lower) (sym (u .exact)) (leZ-yes (le→leb 0 (u .units) zero-le))
