@@ -11,7 +11,8 @@ use Rattle.refusal.specs.declared.Judged.the-variants.{Accepted, Refused}
 use Rattle.refusal.specs.declared.Refusal.{Refusal}
 use Rattle.refusal.specs.declared.Refusal.the-variants.{Room}
 use Rattle.refusal.specs.Judging.{andThen}
-use Rattle.refusal.proofs.Judging.{both, checked-holds, then-holds}
+use Rattle.refusal.proofs.Ranges.{both}
+use Rattle.refusal.proofs.Judging.{checked-holds, then-holds}
 use Rattle.trace.specs.House.{countOf}
 use Rattle.trace.specs.Judging.{judgeTrace, Sound as SoundTrace}
 use Rattle.trace.proofs.Sound.{accepted-sound as trace-sound}

@@ -1,15 +1,13 @@
 -- Lists of checks: one after the other, and what it means that all hold. Assumes nothing.
 use mathlib.Core.Path.{_≡_, refl, ap}
-use mathlib.Core.Bool.{Bool, true, false, _&&_, false≢true}
-use Prim.Native.Nat.{ℕ, _≤_}
+use mathlib.Core.Bool.{Bool, true, false}
+use Prim.Native.Nat.{ℕ}
 use native.Mathlib.Omega.{arith}
-use lib.Dec.{leb}
-use borrow.Author.Tests.{leb-true}
 use mathlib.Core.List.{List, [], _∷_, _++_}
 use Rattle.refusal.specs.declared.Refusal.{Refusal}
 use Rattle.refusal.specs.declared.Judged.{Judged}
 use Rattle.refusal.specs.declared.Judged.the-variants.{Accepted, Refused}
-use Rattle.refusal.specs.Judging.{within, checked, Check, checkedAll, judgedBy, andThen}
+use Rattle.refusal.specs.Judging.{checked, Check, checkedAll, judgedBy, andThen}
 
 -- one list after another
 pub checkedAll-append : (cs ds : List Check) (rest : Judged) → checkedAll (cs ++ ds) rest ≡ checkedAll cs (checkedAll ds rest)
@@ -49,13 +47,3 @@ judged-holds (c ∷ cs) e =
 pub then-holds : (a b : Judged) → andThen a b ≡ Accepted → (a ≡ Accepted) × (b ≡ Accepted)
 then-holds Accepted b e = (refl, e)
 then-holds (Refused refusal) b e = absurd (refused-not e)
-
--- both of two, and both ends of a range
-pub both : (a b : Bool) → a && b ≡ true → (a ≡ true) × (b ≡ true)
-both true b e = (refl, e)
-both false b e = absurd (false≢true e)
-
-pub within-range : (least most n : ℕ) → within least most n ≡ true → (least ≤ n) × (n ≤ most)
-within-range least most n e =
-    let h = both (leb least n) (leb n most) e in
-    (leb-true least n (h .0), leb-true n most (h .1))

@@ -1,16 +1,10 @@
 -- 01, Refusal numbers: "Lowest number first; within a number the first place". Checks stand in a list in that order, and the first that
 -- fails names the refusal.
-use mathlib.Core.Bool.{Bool, true, false, _&&_}
+use mathlib.Core.Bool.{Bool, true, false}
 use mathlib.Core.List.{List, [], _∷_}
-use Prim.Native.Nat.{ℕ}
-use lib.Dec.{leb}
 use Rattle.refusal.specs.declared.Refusal.{Refusal}
 use Rattle.refusal.specs.declared.Judged.{Judged}
 use Rattle.refusal.specs.declared.Judged.the-variants.{Accepted, Refused}
-
--- from least to most
-abbrev pub within : ℕ → ℕ → ℕ → Bool
-within least most n = leb least n && leb n most
 
 -- one check before the others
 abbrev pub checked : Bool → Refusal → Judged → Judged

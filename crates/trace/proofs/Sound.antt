@@ -9,7 +9,8 @@ use borrow.Author.Tests.{leb-true, eqb-true}
 use Rattle.refusal.specs.declared.Judged.the-variants.{Accepted}
 use Rattle.refusal.specs.declared.Refusal.the-variants.{Header, Count, Length}
 use Rattle.refusal.specs.Judging.{checked}
-use Rattle.refusal.proofs.Judging.{both, checked-holds, refused-not}
+use Rattle.refusal.proofs.Ranges.{both}
+use Rattle.refusal.proofs.Judging.{checked-holds, refused-not}
 use Rattle.trace.specs.House.{headed, countOf, speedAt, flagsAt, zeroAt}
 use Rattle.trace.specs.Judging.{countable, secondGood, judgeSeconds, judgeTrace, Sound}
 use Rattle.walk.proofs.Walk.{all-good}

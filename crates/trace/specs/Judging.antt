@@ -8,7 +8,8 @@ use lib.Dec.{eqb, leb}
 use Rattle.refusal.specs.declared.Refusal.the-variants.{Header, Count, Length, Second, PairCounts}
 use Rattle.refusal.specs.declared.Judged.{Judged}
 use Rattle.refusal.specs.declared.Judged.the-variants.{Accepted, Refused}
-use Rattle.refusal.specs.Judging.{within, checked, andThen}
+use Rattle.refusal.specs.Ranges.{within}
+use Rattle.refusal.specs.Judging.{checked, andThen}
 use Rattle.walk.specs.Walk.{scan}
 use Rattle.trace.specs.House.{headed, countOf, speedAt, flagsAt, zeroAt}
 

@@ -6,8 +6,10 @@ use lib.Dec.{leb}
 use borrow.Author.Tests.{leb-true, ltb-true}
 use Rattle.refusal.specs.declared.Judged.the-variants.{Accepted}
 use Rattle.refusal.specs.declared.Refusal.the-variants.{PowerToMass}
-use Rattle.refusal.specs.Judging.{within, checked, judgedBy, andThen}
-use Rattle.refusal.proofs.Judging.{both, within-range, checked-holds, judged-holds, then-holds, refused-not}
+use Rattle.refusal.specs.Ranges.{within}
+use Rattle.refusal.specs.Judging.{checked, judgedBy, andThen}
+use Rattle.refusal.proofs.Ranges.{both, range}
+use Rattle.refusal.proofs.Judging.{checked-holds, judged-holds, then-holds, refused-not}
 use Rattle.walk.proofs.Walk.{all-good}
 use Rattle.vehicle.specs.declared.VehicleSheet.{VehicleSheet}
 use Rattle.vehicle.specs.Sheet.{engineChecks, ndvAt, gearGood, judgeGears, mild, judgeVehicle, Ranged, Sound}
@@ -17,12 +19,12 @@ engine-ranged v e =
     let h = judged-holds (engineChecks v) e in
     let i = both (within 300 3000 (v .idle)) (leb (v .idle + 500) (v .rated)) (h .1 .1 .1 .0) in
     record {
-      power = within-range 1 3000 (v .power) (h .0);
-      mass = within-range 30 1000 (v .mass) (h .1 .0);
-      rated = within-range 1000 20000 (v .rated) (h .1 .1 .0);
-      idle = within-range 300 3000 (v .idle) (i .0);
+      power = range 1 3000 (v .power) (h .0);
+      mass = range 30 1000 (v .mass) (h .1 .0);
+      rated = range 1000 20000 (v .rated) (h .1 .1 .0);
+      idle = range 300 3000 (v .idle) (i .0);
       apart = leb-true (v .idle + 500) (v .rated) (i .1);
-      gears = within-range 3 8 (v .gears) (h .1 .1 .1 .1 .0);
+      gears = range 3 8 (v .gears) (h .1 .1 .1 .1 .0);
     }
 
 pub accepted-sound : (v : VehicleSheet) → judgeVehicle v ≡ Accepted → Sound v
@@ -38,7 +40,7 @@ accepted-sound v e =
     λ falling. all-good (gearGood falling (v .ndv)) _ _ Accepted (λ i. refused-not) in
     record {
       ranged = engine-ranged v (engine .0);
-      ndv = λ i l. within-range 1000 100000 (ndvAt (v .ndv) i) (good false (v .gears) (gears .0) i l);
+      ndv = λ i l. range 1000 100000 (ndvAt (v .ndv) i) (good false (v .gears) (gears .0) i l);
       fall = λ i l. ltb-true (ndvAt (v .ndv) (i + 1)) (ndvAt (v .ndv) i) (good true (v .gears - 1) (fall .0) i l);
       mild = leb-true (19 * v .power) (150 * (v .mass + 75)) (checked-holds (mild v) PowerToMass Accepted (fall .1) .0);
     }

@@ -9,7 +9,8 @@ use Rattle.refusal.specs.declared.Refusal.{Refusal}
 use Rattle.refusal.specs.declared.Refusal.the-variants.{Vehicle, Ratio, PowerToMass}
 use Rattle.refusal.specs.declared.Judged.{Judged}
 use Rattle.refusal.specs.declared.Judged.the-variants.{Accepted, Refused}
-use Rattle.refusal.specs.Judging.{within, checked, Check, judgedBy, andThen}
+use Rattle.refusal.specs.Ranges.{within}
+use Rattle.refusal.specs.Judging.{checked, Check, judgedBy, andThen}
 use Rattle.walk.specs.Walk.{scan}
 use Rattle.vehicle.specs.declared.VehicleSheet.{VehicleSheet}
 

@@ -5,7 +5,8 @@ ghost use mathlib.Core.Path.{_≡_};
 ghost use mathlib.Core.Bool.{_&&_};
 ghost use Prim.Native.Nat.{_+_, _<_};
 ghost use lib.Dec.{leb};
-ghost use Rattle.refusal.specs.Judging.{within, checked, judgedBy};
+ghost use Rattle.refusal.specs.Ranges.{within};
+ghost use Rattle.refusal.specs.Judging.{checked, judgedBy};
 ghost use Rattle.refusal.specs.declared.Refusal.the-variants.{Vehicle};
 ghost use Rattle.vehicle.specs.Sheet.{engineChecks, gearGood, gearRefusal, judgeGears, judgeVehicle, Reach};
 

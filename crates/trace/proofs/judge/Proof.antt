@@ -7,7 +7,7 @@ use borrow.Author.Needs.{needs}
 use borrow.Author.Tests.{lt-leb, leb-true, eq-eqb, ne-eqb, not-true, not-false}
 use Rattle.trace.specs.House.{headed}
 use Rattle.trace.specs.Judging.{countable, judgeTrace}
-use Rattle.refusal.proofs.Judging.{both}
+use Rattle.refusal.proofs.Ranges.{both}
 use Rattle.trace.proofs.judge.Statement.{statement}
 use Rattle.trace.proofs.judge.Tie as tie
 
