@@ -1,0 +1,119 @@
+-- What an accepted bag sheet tells of its numbers and readings, which the stages above require. Assumes nothing.
+use mathlib.Core.Path.{_≡_, refl}
+use mathlib.Core.Bool.{true, false, false≢true}
+use mathlib.Core.List.{List, [], _∷_, _++_}
+use Prim.Native.Nat.{ℕ, _*_}
+use lib.Dec.{eqb}
+use borrow.Author.Tests.{leb-true, eqb-true, eq-eqb}
+use Rattle.refusal.specs.declared.Judged.the-variants.{Accepted}
+use Rattle.refusal.specs.Judging.{Check}
+use Rattle.refusal.specs.Ranges.{within}
+use Rattle.refusal.proofs.Judging.{AllHold, judged-holds}
+use Rattle.refusal.proofs.Ranges.{both, range, rangeℤ}
+use Rattle.reading.specs.declared.Message.{Message}
+use Rattle.reading.specs.declared.Reading.{Reading}
+use Rattle.reading.specs.declared.Reading.the-variants.{Units, Unusable}
+use Rattle.reading.specs.Units.{unitsOf}
+use Rattle.bag.specs.declared.Part.{Part}
+use Rattle.bag.specs.declared.BagSheet.{BagSheet}
+use Rattle.bag.specs.Sheet.{partsOf, classHolds, testChecks, valueChecks, usable, readingChecks, ofThird, sheetChecks, judgeSheet}
+use Rattle.bag.specs.Sound.{Ranged, Read, SoundPart, Tested, Sound}
+
+-- where one list after another holds, both do
+apart : (cs ds : List Check) → AllHold (cs ++ ds) → AllHold cs × AllHold ds
+apart [] ds h = (tt, h)
+apart (c ∷ cs) ds h =
+    let k = apart cs ds (h .1) in
+    ((h .0, k .0), k .1)
+
+ranged : (part : ℕ) (p : Part) → AllHold (valueChecks part p) → Ranged p
+unfolding valueChecks
+ranged part p h =
+    let h3 = h .1 .1 .1 in
+    let h6 = h3 .1 .1 .1 in
+    let h9 = h6 .1 .1 .1 in
+    record {
+      pump = range _ _ (p .pump) (h .0);
+      revolutions = range _ _ (p .revolutions) (h .1 .0);
+      pumped = leb-true (p .pump * p .revolutions) _ (h .1 .1 .0);
+      barometer = range _ _ (p .barometer) (h3 .0);
+      depression = range _ _ (p .depression) (h3 .1 .0) .1;
+      temperature = rangeℤ _ _ (p .temperature) (h3 .1 .1 .0);
+      humidity = range _ _ (p .humidity) (h6 .0) .1;
+      saturation = range _ _ (p .saturation) (h6 .1 .0) .1;
+      distance = range _ _ (p .distance) (h6 .1 .1 .0);
+      hcDensity = range _ _ (p .density .hc) (h9 .0);
+      coDensity = range _ _ (p .density .co) (h9 .1 .0);
+      noxDensity = range _ _ (p .density .nox) (h9 .1 .1 .0);
+      co2Density = range _ _ (p .density .co2) (h9 .1 .1 .1 .0);
+    }
+
+tested : (s : BagSheet) → classHolds (s .class) (s .parts) ≡ true → AllHold (testChecks (s .triple) (s .fuel) (s .limits)) → Tested s
+unfolding testChecks
+tested s e h =
+    let class = both (within 1 3 (s .class)) (eqb (s .parts) (partsOf (s .class))) e in
+    let h3 = h .1 .1 .1 in
+    let h8 = h3 .1 .1 .1 .1 .1 in
+    record {
+      class = range _ _ (s .class) (class .0);
+      parts = eqb-true _ _ (class .1);
+      d = range _ _ (s .triple .d) (h .0);
+      wc = range _ _ (s .triple .wc) (h .1 .0) .1;
+      wh = range _ _ (s .triple .wh) (h .1 .1 .0) .1;
+      k = range _ _ (s .fuel .k) (h3 .0);
+      hcFactor = range _ _ (s .fuel .hc) (h3 .1 .0) .1;
+      coFactor = range _ _ (s .fuel .co) (h3 .1 .1 .0) .1;
+      co2Factor = range _ _ (s .fuel .co2) (h3 .1 .1 .1 .0) .1;
+      fuelDensity = range _ _ (s .fuel .density) (h3 .1 .1 .1 .1 .0);
+      hcLimit = leb-true (s .limits .hc) _ (h8 .0);
+      coLimit = leb-true (s .limits .co) _ (h8 .1 .0);
+      noxLimit = leb-true (s .limits .nox) _ (h8 .1 .1 .0);
+      co2Limit = leb-true (s .limits .co2) _ (h8 .1 .1 .1 .0);
+    }
+
+-- a usable message has its ends
+read : (message : Message) → usable (unitsOf message) ≡ true → Read message
+read message h = go (unitsOf message) refl h
+  where
+    go : (r : Reading) → unitsOf message ≡ r → usable r ≡ true → Read message
+    go (Units ends) e h = record { ends = ends; units = e }
+    go Unusable e h = absurd (false≢true h)
+
+sound-part : (part : ℕ) (p : Part) → AllHold (valueChecks part p) → AllHold (readingChecks part p) → SoundPart p
+unfolding readingChecks
+sound-part part p values h =
+    let co = h .1 .1 in
+    let nox = co .1 .1 in
+    let co2 = nox .1 .1 in
+    record {
+      ranged = ranged part p values;
+      bag = record { hc = read _ (h .0); co = read _ (co .0); nox = read _ (nox .0); co2 = read _ (co2 .0) };
+      air = record { hc = read _ (h .1 .0); co = read _ (co .1 .0); nox = read _ (nox .1 .0); co2 = read _ (co2 .1 .0) };
+    }
+
+-- class 3 has the checks of the third part
+third-holds : (class : ℕ) (cs : List Check) → AllHold (ofThird class cs) → class ≡ 3 → AllHold cs
+third-holds class cs h e = rw (eq-eqb class 3 e) at h
+
+pub accepted-sound : (s : BagSheet) → judgeSheet s ≡ Accepted → Sound s
+unfolding sheetChecks
+accepted-sound s e =
+    let h = judged-holds (sheetChecks s) e in
+    let readings-3 = ofThird (s .class) (readingChecks 3 (s .third)) in
+    let readings-2 = readingChecks 2 (s .second) ++ readings-3 in
+    let readings-1 = readingChecks 1 (s .first) ++ readings-2 in
+    let values-3 = ofThird (s .class) (valueChecks 3 (s .third)) ++ readings-1 in
+    let values-2 = valueChecks 2 (s .second) ++ values-3 in
+    let values-1 = valueChecks 1 (s .first) ++ values-2 in
+    let t = apart (testChecks (s .triple) (s .fuel) (s .limits)) values-1 (h .1) in
+    let v1 = apart (valueChecks 1 (s .first)) values-2 (t .1) in
+    let v2 = apart (valueChecks 2 (s .second)) values-3 (v1 .1) in
+    let v3 = apart (ofThird (s .class) (valueChecks 3 (s .third))) readings-1 (v2 .1) in
+    let r1 = apart (readingChecks 1 (s .first)) readings-2 (v3 .1) in
+    let r2 = apart (readingChecks 2 (s .second)) readings-3 (r1 .1) in
+    record {
+      tested = tested s (h .0) (t .0);
+      first = sound-part 1 (s .first) (v1 .0) (r1 .0);
+      second = sound-part 2 (s .second) (v2 .0) (r2 .0);
+      third = λ c. sound-part 3 (s .third) (third-holds (s .class) _ (v3 .0) c) (third-holds (s .class) _ (r2 .1) c);
+    }

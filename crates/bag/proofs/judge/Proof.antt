@@ -1,0 +1,32 @@
+-- `bag::judge` meets its contract: its lists of checks, one after the other, are the one list of the sheet. Assumes nothing.
+use Rattle.refusal.proofs.Judging.{checkedAll-append}
+use Rattle.bag.specs.Sheet.{sheetChecks}
+use Rattle.bag.proofs.judge.Statement.{statement}
+use Rattle.bag.proofs.judge.Tie as tie
+
+returns : tie.Need-returns
+unfolding sheetChecks
+returns c =
+    let test = c .before .before in
+    let first = test .before in
+    let readings = first .before .before .before in
+    simp (
+      c .check .ensures,
+      c .before .class-holds .ensures,
+      test .test-values .ensures,
+      first .part-values2 .ensures,
+      first .before .part-values .ensures,
+      first .before .before .third-values .ensures,
+      readings .part-readings2 .ensures,
+      readings .before .part-readings .ensures,
+      readings .before .before .third-readings .ensures,
+      checkedAll-append,
+    )
+
+pub judge-spec : {M : Type 1} → statement M
+judge-spec =
+    tie.close
+    (tie.spec
+    (λ c κs. tt) (λ c κs. tt) (λ c κs. tt) (λ c κs. tt) (λ c κs. tt)
+    (λ c κs. tt) (λ c κs. tt) (λ c κs. tt) (λ c κs. tt)
+    returns)

@@ -1,0 +1,112 @@
+-- 01, Bag sheet and figures and Refusal numbers: the checks of refusals 10, 11 and 12 in their order. Within 11 the test's fields come first,
+-- as part 0; within 12 a part's gases go HC, CO, NOx, CO2, the bag (1) before the air (2). The third part is read for class 3 alone.
+use mathlib.Core.Bool.{Bool, true, false, _&&_, cond}
+use mathlib.Core.List.{List, [], _∷_, _++_}
+use Prim.Native.Nat.{ℕ, _*_}
+use lib.Dec.{leb, eqb}
+use lib.IntN.{pos, negsuc}
+use Rattle.refusal.specs.declared.Judged.{Judged}
+use Rattle.refusal.specs.declared.Refusal.the-variants.{Parts, Value, Reading}
+use Rattle.refusal.specs.Judging.{Check, judgedBy}
+use Rattle.refusal.specs.Ranges.{within, withinℤ}
+use Rattle.reading.specs.declared.Message.{Message}
+use Rattle.reading.specs.declared.Reading as read
+use Rattle.reading.specs.declared.Reading.the-variants.{Units, Unusable}
+use Rattle.reading.specs.Units.{unitsOf}
+use Rattle.bag.specs.declared.Triple.{Triple}
+use Rattle.bag.specs.declared.Fuel.{Fuel}
+use Rattle.bag.specs.declared.Limits.{Limits}
+use Rattle.bag.specs.declared.Part.{Part}
+use Rattle.bag.specs.declared.BagSheet.{BagSheet}
+
+-- "class 1, parts 50 and 50 percent; class 2, 30 and 70; class 3, 25, 50 and 25"
+abbrev pub partsOf : ℕ → ℕ
+partsOf class = cond (eqb class 3) 3 2
+
+-- 10: "class not 1 to 3, or wrong number of parts"
+abbrev pub classHolds : ℕ → ℕ → Bool
+classHolds class parts = within 1 3 class && eqb parts (partsOf class)
+
+abbrev pub classCheck : ℕ → ℕ → Check
+classCheck class parts = record { holds = classHolds class parts; refusal = Parts }
+
+-- 11: any of a field's numbers is that field
+abbrev pub value : ℕ → ℕ → Bool → Check
+value part field holds = record { holds = holds; refusal = Value part field }
+
+-- "10 to 12 per test"
+unfoldable pub testChecks : Triple → Fuel → Limits → List Check
+testChecks triple fuel limits =
+    value 0 10 (within 100 200 (triple .d))
+    ∷ value 0 10 (within 0 20 (triple .wc))
+    ∷ value 0 10 (within 0 20 (triple .wh))
+    ∷ value 0 11 (within 1 1500 (fuel .k))
+    ∷ value 0 11 (within 0 1000 (fuel .hc))
+    ∷ value 0 11 (within 0 1000 (fuel .co))
+    ∷ value 0 11 (within 0 1000 (fuel .co2))
+    ∷ value 0 11 (within 600 1000 (fuel .density))
+    ∷ value 0 12 (leb (limits .hc) 1000000000000)
+    ∷ value 0 12 (leb (limits .co) 1000000000000)
+    ∷ value 0 12 (leb (limits .nox) 1000000000000)
+    ∷ value 0 12 (leb (limits .co2) 1000000000000)
+    ∷ []
+
+-- "with field 1 at most 10^9 ml", which is field 2
+abbrev pub pumped : ℕ → ℕ → Bool
+pumped pump revolutions = leb (pump * revolutions) 1000000000
+
+-- "Fields 1 to 9 are per part"
+unfoldable pub valueChecks : ℕ → Part → List Check
+valueChecks part p =
+    value part 1 (within 100 20000 (p .pump))
+    ∷ value part 2 (within 1 100000 (p .revolutions))
+    ∷ value part 2 (pumped (p .pump) (p .revolutions))
+    ∷ value part 3 (within 80000 110000 (p .barometer))
+    ∷ value part 4 (within 0 20000 (p .depression))
+    ∷ value part 5 (withinℤ (negsuc 399) (pos 1500) (p .temperature))
+    ∷ value part 6 (within 0 1000 (p .humidity))
+    ∷ value part 7 (within 0 12000 (p .saturation))
+    ∷ value part 8 (within 100 100000 (p .distance))
+    ∷ value part 9 (within 1 2100000 (p .density .hc))
+    ∷ value part 9 (within 1 2100000 (p .density .co))
+    ∷ value part 9 (within 1 2100000 (p .density .nox))
+    ∷ value part 9 (within 1 2100000 (p .density .co2))
+    ∷ []
+
+-- 12: "reading unusable"
+abbrev pub usable : read.Reading → Bool
+usable (Units ends) = true
+usable Unusable = false
+
+abbrev pub readingCheck : ℕ → ℕ → ℕ → Message → Check
+readingCheck part gas side message = record { holds = usable (unitsOf message); refusal = Reading part gas side }
+
+-- "bag before air"
+abbrev pub gasChecks : ℕ → ℕ → Message → Message → List Check
+gasChecks part gas bag air = readingCheck part gas 1 bag ∷ readingCheck part gas 2 air ∷ []
+
+-- "gases go HC, CO, NOx, CO2"
+unfoldable pub readingChecks : ℕ → Part → List Check
+readingChecks part p =
+    gasChecks part 1 (p .bag .hc) (p .air .hc)
+    ++ (gasChecks part 2 (p .bag .co) (p .air .co)
+    ++ (gasChecks part 3 (p .bag .nox) (p .air .nox)
+    ++ gasChecks part 4 (p .bag .co2) (p .air .co2)))
+
+-- the checks of the third part, which class 3 alone has
+abbrev pub ofThird : ℕ → List Check → List Check
+ofThird class checks = cond (eqb class 3) checks []
+
+unfoldable pub sheetChecks : BagSheet → List Check
+sheetChecks s =
+    classCheck (s .class) (s .parts)
+    ∷ (testChecks (s .triple) (s .fuel) (s .limits)
+    ++ (valueChecks 1 (s .first)
+    ++ (valueChecks 2 (s .second)
+    ++ (ofThird (s .class) (valueChecks 3 (s .third))
+    ++ (readingChecks 1 (s .first)
+    ++ (readingChecks 2 (s .second)
+    ++ ofThird (s .class) (readingChecks 3 (s .third))))))))
+
+abbrev pub judgeSheet : BagSheet → Judged
+judgeSheet s = judgedBy (sheetChecks s)

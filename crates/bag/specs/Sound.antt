@@ -1,0 +1,68 @@
+-- What an accepted bag sheet tells of its numbers and readings, for the stages that stand on it (01, Bag sheet and figures, the table).
+use mathlib.Core.Path.{_≡_}
+use Prim.Native.Nat.{_*_, _≤_}
+use lib.IntN.{pos, negsuc}
+use lib.Signed.{_≤ℤ_}
+use Rattle.arith.specs.declared.Ends.{Ends}
+use Rattle.reading.specs.declared.Message.{Message}
+use Rattle.reading.specs.declared.Bag.{Bag}
+use Rattle.reading.specs.declared.Reading.the-variants.{Units}
+use Rattle.reading.specs.Units.{unitsOf}
+use Rattle.bag.specs.declared.Part.{Part}
+use Rattle.bag.specs.declared.BagSheet.{BagSheet}
+use Rattle.bag.specs.Sheet.{partsOf}
+
+-- fields 1 to 9 of a part
+pub record Ranged (p : Part) : Type 0 where
+  pub pump : (100 ≤ p .pump) × (p .pump ≤ 20000)
+  pub revolutions : (1 ≤ p .revolutions) × (p .revolutions ≤ 100000)
+  pub pumped : p .pump * p .revolutions ≤ 1000000000
+  pub barometer : (80000 ≤ p .barometer) × (p .barometer ≤ 110000)
+  pub depression : p .depression ≤ 20000
+  pub temperature : (negsuc 399 ≤ℤ p .temperature) × (p .temperature ≤ℤ pos 1500)
+  pub humidity : p .humidity ≤ 1000
+  pub saturation : p .saturation ≤ 12000
+  pub distance : (100 ≤ p .distance) × (p .distance ≤ 100000)
+  pub hcDensity : (1 ≤ p .density .hc) × (p .density .hc ≤ 2100000)
+  pub coDensity : (1 ≤ p .density .co) × (p .density .co ≤ 2100000)
+  pub noxDensity : (1 ≤ p .density .nox) × (p .density .nox ≤ 2100000)
+  pub co2Density : (1 ≤ p .density .co2) × (p .density .co2 ≤ 2100000)
+
+-- a message with its ends in units
+pub record Read (message : Message) : Type 0 where
+  pub ends : Ends
+  pub units : unitsOf message ≡ Units ends
+
+pub record Readable (b : Bag) : Type 0 where
+  pub hc : Read (b .hc)
+  pub co : Read (b .co)
+  pub nox : Read (b .nox)
+  pub co2 : Read (b .co2)
+
+pub record SoundPart (p : Part) : Type 0 where
+  pub ranged : Ranged p
+  pub bag : Readable (p .bag)
+  pub air : Readable (p .air)
+
+-- the class, and fields 10 to 12
+pub record Tested (s : BagSheet) : Type 0 where
+  pub class : (1 ≤ s .class) × (s .class ≤ 3)
+  pub parts : s .parts ≡ partsOf (s .class)
+  pub d : (100 ≤ s .triple .d) × (s .triple .d ≤ 200)
+  pub wc : s .triple .wc ≤ 20
+  pub wh : s .triple .wh ≤ 20
+  pub k : (1 ≤ s .fuel .k) × (s .fuel .k ≤ 1500)
+  pub hcFactor : s .fuel .hc ≤ 1000
+  pub coFactor : s .fuel .co ≤ 1000
+  pub co2Factor : s .fuel .co2 ≤ 1000
+  pub fuelDensity : (600 ≤ s .fuel .density) × (s .fuel .density ≤ 1000)
+  pub hcLimit : s .limits .hc ≤ 1000000000000
+  pub coLimit : s .limits .co ≤ 1000000000000
+  pub noxLimit : s .limits .nox ≤ 1000000000000
+  pub co2Limit : s .limits .co2 ≤ 1000000000000
+
+pub record Sound (s : BagSheet) : Type 0 where
+  pub tested : Tested s
+  pub first : SoundPart (s .first)
+  pub second : SoundPart (s .second)
+  pub third : s .class ≡ 3 → SoundPart (s .third)
