@@ -1,0 +1,2 @@
+pub mod UpTo
+pub mod Sizes

@@ -1,0 +1,67 @@
+-- `stage::concentration` meets its contract. Assumes nothing.
+use native.Mathlib.Omega.{arith}
+use mathlib.Core.Path.{_≡_}
+use lib.IntN.{pos}
+use mir.Syntax.{w64}
+use mir.Val.{toZ, ofZ}
+use Rattle.arith.specs.Stages.{exactly, differenceOf, productOf}
+use Rattle.arith.proofs.Machine.{handed}
+use Rattle.arith.proofs.Size.{exactly-size, scaled-fits, product-fits, difference-fits}
+use Rattle.stage.specs.Part.{netOf, concentrationOf}
+use Rattle.stage.proofs.UpTo.{upTo-size}
+use Rattle.stage.proofs.Sizes.{q-positive, rest-upTo, from-air-upTo, from-bag-upTo, net-size}
+use Rattle.stage.proofs.concentration.Statement.{statement}
+use Rattle.stage.proofs.concentration.Tie as tie
+
+q-is : (c : tie.After-whole) → toZ w64 (ofZ w64 (c .whole .result)) ≡ pos (c .before .args .q)
+q-is c = handed (c .whole .result) (c .whole .ok) (c .whole .ensures)
+
+-- Q − G, air (Q − G), and bag Q − air (Q − G)
+rest-is : (c : tie.After-difference) → let a = c .before .before .before .args in c .difference .result ≡ differenceOf (exactly (pos (a .q))) (a .g)
+rest-is c = simp (c .difference .ensures, c .before .exactly .ensures, q-is (c .before .before))
+
+from-air-is : (c : tie.After-product) → let a = c .before .before .before .before .args in c .product .result ≡ productOf (a .air) (differenceOf (exactly (pos (a .q))) (a .g))
+from-air-is c = simp (c .product .ensures, rest-is (c .before))
+
+net-is :
+    (c : tie.After-difference2) →
+    let a = c .before .before .before .before .before .before .args in
+    c .difference2 .result ≡ netOf (a .bag) (a .air) (a .g) (a .q)
+net-is c = simp (c .difference2 .ensures, c .before .scaled .ensures, q-is (c .before .before .before .before .before), from-air-is (c .before .before))
+
+difference-requires : tie.Need-difference-requires
+difference-requires c κs =
+    let r = c .before .before .pre in
+    simp (c .exactly .ensures, q-is (c .before)) (difference-fits (omega arith) (exactly-size _ (r .q-most)) (upTo-size (r .g-range)))
+
+product-requires : tie.Need-product-requires
+product-requires c κs =
+    let r = c .before .before .before .pre in
+    rw (rest-is c) (product-fits (omega (arith, r .q-most)) (upTo-size (r .air-reading)) (upTo-size (rest-upTo r)))
+
+scaled-requires : tie.Need-scaled-requires
+scaled-requires c κs =
+    let r = c .before .before .before .before .pre in
+    rw (q-is (c .before .before .before)) (scaled-fits _ (omega arith) (r .q-most) (upTo-size (r .bag-reading)))
+
+difference-requires-2 : tie.Need-difference-requires-2
+difference-requires-2 c κs =
+    let r = c .before .before .before .before .before .pre in
+    simp (c .scaled .ensures, q-is (c .before .before .before .before), from-air-is (c .before))
+    (difference-fits (omega (arith, r .q-most)) (upTo-size (from-bag-upTo r)) (upTo-size (from-air-upTo r)))
+
+scaled-requires-2 : tie.Need-scaled-requires-2
+scaled-requires-2 c κs =
+    let r = c .before .before .before .before .before .before .pre in
+    rw (net-is c) (scaled-fits {m = 16} (pos 16) (omega (arith, r .q-most)) (omega arith) (net-size r))
+
+divided-requires : tie.Need-divided-requires
+divided-requires c κs = rw (q-is (c .before .before .before .before .before .before)) (q-positive (c .before .before .before .before .before .before .before .pre))
+
+returns : tie.Need-returns
+unfolding concentrationOf
+returns c =
+    simp (c .divided .ensures, c .before .scaled2 .ensures, net-is (c .before .before), q-is (c .before .before .before .before .before .before .before))
+
+pub concentration-spec : {M : Type 1} → statement M
+concentration-spec = tie.close (tie.spec (λ c κs. tt) (λ c κs. tt) difference-requires product-requires scaled-requires difference-requires-2 scaled-requires-2 divided-requires returns)

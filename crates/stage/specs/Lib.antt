@@ -1,0 +1,4 @@
+pub mod Combination
+pub mod Part
+pub mod Test
+pub mod Ranges

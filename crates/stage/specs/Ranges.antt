@@ -1,0 +1,124 @@
+-- What the stages ask of what they are given: the sheet's ranges (01, Bag sheet and figures, the table of values), and how large
+-- the ends from the stages before can be.
+use mathlib.Core.Path.{_≡_}
+use mathlib.Core.Bool.{true}
+use Prim.Native.Nat.{ℕ, _+_, _*_, _≤_}
+use lib.IntN.{ℤ, pos, negsuc}
+use lib.Signed.{_≤ℤ_}
+use Rattle.arith.specs.declared.Ends.{Ends}
+use Rattle.arith.specs.Fitting.{Sized}
+use Rattle.stage.specs.declared.Weights.{Weights}
+use Rattle.stage.specs.Part.{dilutionGood, humidityGood}
+
+-- ends in order, from 0 to m
+pub record UpTo (m : ℕ) (e : Ends) : Type 0 where
+  pub least : pos 0 ≤ℤ e .lower
+  pub ordered : e .lower ≤ℤ e .upper
+  pub most : e .upper ≤ℤ pos m
+
+-- ---- the largest of each: readings and G in 1/256 ppm, then ml, 1/4,096 ppm, microlitres, micrograms, 1/65,536, micrograms, micrograms/km
+abbrev pub largestReading : ℕ
+largestReading = 16777216
+
+abbrev pub largestG : ℕ
+largestG = 838860800
+
+abbrev pub largestVolume : ℕ
+largestVolume = 1364993400
+
+abbrev pub largestConcentration : ℕ
+largestConcentration = 268435456
+
+abbrev pub largestGasVolume : ℕ
+largestGasVolume = 89456207463
+
+abbrev pub largestMass : ℕ
+largestMass = 187858035673
+
+abbrev pub largestKh : ℕ
+largestKh = 179536
+
+abbrev pub largestNoxMass : ℕ
+largestNoxMass = 514637455637
+
+-- of NOx; the other gases' rates are at most ten times the largest mass
+abbrev pub largestRate : ℕ
+largestRate = 5146374556370
+
+-- in microlitres per 100 km
+abbrev pub largestFuel : ℕ
+largestFuel = 1408935267548
+
+-- ---- what each stage asks
+pub record CombinationRanges (j : ℕ) (a : Ends) (k : ℕ) (b : Ends) (l : ℕ) (c : Ends) : Type 0 where
+  pub j-most : j ≤ 1000
+  pub k-most : k ≤ 1000
+  pub l-most : l ≤ 1000
+  pub a-size : Sized largestRate a
+  pub b-size : Sized largestRate b
+  pub c-size : Sized largestRate c
+
+pub record VolumeRanges (pump revolutions barometer depression : ℕ) (temperature : ℤ) : Type 0 where
+  pub swept : pump * revolutions ≤ 1000000000
+  pub low : 80000 ≤ barometer
+  pub high : barometer ≤ 110000
+  pub inlet : depression ≤ 20000
+  pub cold : negsuc 399 ≤ℤ temperature
+  pub hot : temperature ≤ℤ pos 1500
+
+pub record GRanges (co2 co hc : Ends) (wc wh : ℕ) : Type 0 where
+  pub co2-reading : UpTo largestReading co2
+  pub co-reading : UpTo largestReading co
+  pub hc-reading : UpTo largestReading hc
+  pub wc-most : wc ≤ 20
+  pub wh-most : wh ≤ 20
+
+pub record ConcentrationRanges (bag air g : Ends) (q : ℕ) : Type 0 where
+  pub bag-reading : UpTo largestReading bag
+  pub air-reading : UpTo largestReading air
+  pub g-range : UpTo largestG g
+  pub good : dilutionGood g q ≡ true
+  pub q-most : q ≤ 512000000
+
+pub record GasVolumeRanges (volume concentration : Ends) : Type 0 where
+  pub volume-size : Sized largestVolume volume
+  pub concentration-size : Sized largestConcentration concentration
+
+pub record MassRanges (gas : Ends) (density : ℕ) : Type 0 where
+  pub gas-size : Sized largestGasVolume gas
+  pub density-most : density ≤ 2100000
+
+pub record HumidityRanges (humidity saturation barometer : ℕ) : Type 0 where
+  pub humidity-most : humidity ≤ 1000
+  pub saturation-most : saturation ≤ 12000
+  pub low : 80000 ≤ barometer
+  pub high : barometer ≤ 110000
+
+pub record KhRanges (humidity saturation barometer : ℕ) : Type 0 where
+  pub ranges : HumidityRanges humidity saturation barometer
+  pub good : humidityGood humidity saturation barometer ≡ true
+
+pub record NoxMassRanges (mass kh : Ends) : Type 0 where
+  pub mass-size : Sized largestMass mass
+  pub kh-size : Sized largestKh kh
+
+pub record RateRanges (mass : Ends) (distance : ℕ) : Type 0 where
+  pub mass-size : Sized largestNoxMass mass
+  pub distance-least : 100 ≤ distance
+
+pub record WeightedRanges (weights : Weights) (first second third : Ends) : Type 0 where
+  pub whole : weights .first + weights .second + weights .third ≡ 100
+  pub first-size : Sized largestRate first
+  pub second-size : Sized largestRate second
+  pub third-size : Sized largestRate third
+
+pub record FuelRanges (k f1 f2 f3 density : ℕ) (hc co co2 : Ends) : Type 0 where
+  pub k-most : k ≤ 1500
+  pub f1-most : f1 ≤ 1000
+  pub f2-most : f2 ≤ 1000
+  pub f3-most : f3 ≤ 1000
+  pub light : 600 ≤ density
+  pub heavy : density ≤ 1000
+  pub hc-size : Sized (10 * largestMass) hc
+  pub co-size : Sized (10 * largestMass) co
+  pub co2-size : Sized (10 * largestMass) co2
