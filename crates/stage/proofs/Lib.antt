@@ -1,2 +1,3 @@
 pub mod UpTo
 pub mod Sizes
+mod Figures
