@@ -20,7 +20,7 @@ use Rattle.bag.specs.Sheet.{partsOf, classHolds, testChecks, valueChecks
 use Rattle.bag.specs.Sound.{Ranged, Read, SoundPart, Tested, Sound}
 
 -- where one list after another holds, both do
-apart : (cs ds : List Check) → AllHold (cs ++ ds) → AllHold cs × AllHold ds
+pub apart : (cs ds : List Check) → AllHold (cs ++ ds) → AllHold cs × AllHold ds
 apart [] ds h = (tt, h)
 apart (c ∷ cs) ds h =
     let k = apart cs ds (h .1) in
@@ -92,7 +92,7 @@ sound-part part p values h =
     }
 
 -- class 3 has the checks of the third part
-third-holds : (class : ℕ) (cs : List Check) → AllHold (ofThird class cs) → class ≡ 3 → AllHold cs
+pub third-holds : (class : ℕ) (cs : List Check) → AllHold (ofThird class cs) → class ≡ 3 → AllHold cs
 third-holds class cs h e = rw (eq-eqb class 3 e) at h
 
 pub accepted-sound : (s : BagSheet) → judgeSheet s ≡ Accepted → Sound s

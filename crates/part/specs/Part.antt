@@ -1,0 +1,73 @@
+-- One part of a test (01, Bag sheet and figures): its readings, and from them and its fields the volume, and each gas's mass and rate.
+use mathlib.Core.Bool.{Bool}
+use Prim.Native.Nat.{ℕ}
+use lib.IntN.{pos}
+use Rattle.arith.specs.declared.Ends.{Ends}
+use Rattle.arith.specs.Stages.{exactly}
+use Rattle.reading.specs.declared.Bag.{Bag}
+use Rattle.reading.specs.declared.Reading.{Reading}
+use Rattle.reading.specs.declared.Reading.the-variants.{Units, Unusable}
+use Rattle.reading.specs.Units.{unitsOf}
+use Rattle.bag.specs.declared.Part.{Part}
+use Rattle.bag.specs.declared.Triple.{Triple}
+use Rattle.bag.specs.declared.Densities.{Densities}
+use Rattle.stage.specs.Part.{gtr, volumeOf, gOf, qOf, dilutionGood, concentrationOf, gasVolumeOf, massOf, humidityGood, khOf, noxMassOf, rateOf}
+use Rattle.part.specs.declared.Gases.{Gases}
+use Rattle.part.specs.declared.Sides.{Sides}
+use Rattle.part.specs.declared.PartResult.{PartResult}
+
+-- the ends of a reading; an unusable one is refused before, and stands as 0
+abbrev pub endsOf : Reading → Ends
+endsOf (Units ends) = ends
+endsOf Unusable = exactly (pos 0)
+
+unfoldable pub readingsOf : Bag → Gases
+readingsOf bag =
+    record { hc = endsOf (unitsOf (bag .hc)); co = endsOf (unitsOf (bag .co)); nox = endsOf (unitsOf (bag .nox)); co2 = endsOf (unitsOf (bag .co2)) }
+
+abbrev pub sidesOf : Part → Sides
+sidesOf p = record { bag = readingsOf (p .bag); air = readingsOf (p .air) }
+
+-- "G = 10 CO2 + wc CO + wh HC in bag units"
+abbrev pub gIn : Triple → Gases → Ends
+gIn triple bag = gOf (bag .co2) (bag .co) (bag .hc) (triple .wc) (triple .wh)
+
+-- "G must be below Q"
+abbrev pub diluted : Triple → Gases → Bool
+diluted triple bag = dilutionGood (gIn triple bag) (qOf (triple .d))
+
+abbrev pub dryEnough : Part → Bool
+dryEnough p = humidityGood (p .humidity) (p .saturation) (p .barometer)
+
+abbrev pub volumeIn : Part → Ends
+volumeIn p = volumeOf gtr (p .pump) (p .revolutions) (p .barometer) (p .depression) (p .temperature)
+
+-- from the concentration to the mass: the same stages for every gas
+unfoldable pub gasMass : Ends → Ends → Ends → Ends → ℕ → ℕ → Ends
+gasMass volume bag air g q density = massOf (gasVolumeOf volume (concentrationOf bag air g q)) density
+
+unfoldable pub massesOf : Ends → Sides → Ends → ℕ → Densities → Gases
+massesOf volume sides g q density =
+    record {
+      hc = gasMass volume (sides .bag .hc) (sides .air .hc) g q (density .hc);
+      co = gasMass volume (sides .bag .co) (sides .air .co) g q (density .co);
+      nox = gasMass volume (sides .bag .nox) (sides .air .nox) g q (density .nox);
+      co2 = gasMass volume (sides .bag .co2) (sides .air .co2) g q (density .co2);
+    }
+
+-- "NOx: times Kh", and no other gas
+unfoldable pub correctedFor : Ends → Gases → Gases
+correctedFor kh mass = record { hc = mass .hc; co = mass .co; nox = noxMassOf (mass .nox) kh; co2 = mass .co2 }
+
+unfoldable pub ratesOf : Gases → ℕ → Gases
+ratesOf mass distance =
+    record { hc = rateOf (mass .hc) distance; co = rateOf (mass .co) distance; nox = rateOf (mass .nox) distance; co2 = rateOf (mass .co2) distance }
+
+unfoldable pub massIn : Triple → Part → Sides → Gases
+massIn triple p sides =
+    correctedFor (khOf (p .humidity) (p .saturation) (p .barometer))
+    (massesOf (volumeIn p) sides (gIn triple (sides .bag)) (qOf (triple .d)) (p .density))
+
+unfoldable pub partOf : Triple → Part → Sides → PartResult
+partOf triple p sides =
+    record { volume = volumeIn p; mass = massIn triple p sides; rate = ratesOf (massIn triple p sides) (p .distance) }
