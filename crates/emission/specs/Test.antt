@@ -1,0 +1,117 @@
+-- The whole test (01, Bag sheet and figures): refusals 13 and 14, the parts, the weighted result, the fuel and the verdicts.
+use mathlib.Core.Bool.{Bool, cond}
+use mathlib.Core.List.{List, [], _∷_, _++_}
+use Prim.Native.Nat.{ℕ}
+use lib.Dec.{eqb}
+use lib.IntN.{pos}
+use Rattle.arith.specs.declared.Ends.{Ends}
+use Rattle.arith.specs.Stages.{exactly}
+use Rattle.refusal.specs.declared.Judged.{Judged}
+use Rattle.refusal.specs.declared.Judged.the-variants.{Accepted}
+use Rattle.refusal.specs.declared.Judged.the-variants as judged
+use Rattle.refusal.specs.declared.Refusal.the-variants.{Dilution, Humidity}
+use Rattle.refusal.specs.Judging.{Check, judgedBy}
+use Rattle.bag.specs.declared.BagSheet.{BagSheet}
+use Rattle.bag.specs.declared.Fuel.{Fuel}
+use Rattle.bag.specs.declared.Limits.{Limits}
+use Rattle.bag.specs.Sheet.{ofThird, judgeSheet}
+use Rattle.stage.specs.declared.Weights.{Weights}
+use Rattle.stage.specs.Test.{weightsOf, weightedOf, fuelOf, verdictOf}
+use Rattle.part.specs.declared.Gases.{Gases}
+use Rattle.part.specs.declared.PartResult.{PartResult}
+use Rattle.part.specs.declared.Sides.{Sides}
+use Rattle.part.specs.Part.{sidesOf, diluted, dryEnough, partOf}
+use Rattle.emission.specs.declared.Readings.{Readings}
+use Rattle.emission.specs.declared.Parts.{Parts}
+use Rattle.emission.specs.declared.Verdicts.{Verdicts}
+use Rattle.emission.specs.declared.TestResult.{TestResult}
+use Rattle.emission.specs.declared.Answer.{Answer}
+use Rattle.emission.specs.declared.Answer.the-variants.{Result, Refused}
+
+abbrev pub readingsIn : BagSheet → Readings
+readingsIn s = record { first = sidesOf (s .first); second = sidesOf (s .second); third = sidesOf (s .third) }
+
+-- ---- refusals 13 and 14, over all parts each, the lowest number first
+-- 13: "G not below Q"
+abbrev pub dilution : ℕ → Bool → Check
+dilution part holds = record { holds = holds; refusal = Dilution part }
+
+-- 14: "H above 30"
+abbrev pub humidity : ℕ → Bool → Check
+humidity part holds = record { holds = holds; refusal = Humidity part }
+
+unfoldable pub lateChecks : BagSheet → Readings → List Check
+lateChecks s r =
+    dilution 1 (diluted (s .triple) (r .first .bag))
+    ∷ dilution 2 (diluted (s .triple) (r .second .bag))
+    ∷ (ofThird (s .class) (dilution 3 (diluted (s .triple) (r .third .bag)) ∷ [])
+    ++ (humidity 1 (dryEnough (s .first))
+    ∷ humidity 2 (dryEnough (s .second))
+    ∷ ofThird (s .class) (humidity 3 (dryEnough (s .third)) ∷ [])))
+
+abbrev pub judgeLate : BagSheet → Readings → Judged
+judgeLate s r = judgedBy (lateChecks s r)
+
+-- ---- the parts. A third part that the class does not have is nothing
+abbrev pub nothing : Gases
+nothing = record { hc = exactly (pos 0); co = exactly (pos 0); nox = exactly (pos 0); co2 = exactly (pos 0) }
+
+abbrev pub noPart : PartResult
+noPart = record { volume = exactly (pos 0); mass = nothing; rate = nothing }
+
+unfoldable pub thirdPart : BagSheet → Sides → PartResult
+thirdPart s sides = cond (eqb (s .class) 3) (partOf (s .triple) (s .third) sides) noPart
+
+unfoldable pub partsIn : BagSheet → Readings → Parts
+partsIn s r =
+    record {
+      first = partOf (s .triple) (s .first) (r .first);
+      second = partOf (s .triple) (s .second) (r .second);
+      third = thirdPart s (r .third);
+    }
+
+-- ---- the result
+-- "Weighted", each gas at the class's weights
+unfoldable pub weightedGases : Weights → Gases → Gases → Gases → Gases
+weightedGases w first second third =
+    record {
+      hc = weightedOf w (first .hc) (second .hc) (third .hc);
+      co = weightedOf w (first .co) (second .co) (third .co);
+      nox = weightedOf w (first .nox) (second .nox) (third .nox);
+      co2 = weightedOf w (first .co2) (second .co2) (third .co2);
+    }
+
+-- "Verdict per gas"
+unfoldable pub verdictsOf : Gases → Limits → Verdicts
+verdictsOf weighted limits =
+    record {
+      hc = verdictOf (weighted .hc) (limits .hc);
+      co = verdictOf (weighted .co) (limits .co);
+      nox = verdictOf (weighted .nox) (limits .nox);
+      co2 = verdictOf (weighted .co2) (limits .co2);
+    }
+
+-- "Fuel .. from the weighted ends"
+abbrev pub fuelIn : Fuel → Gases → Ends
+fuelIn f weighted = fuelOf (f .k) (f .hc) (f .co) (f .co2) (f .density) (weighted .hc) (weighted .co) (weighted .co2)
+
+abbrev pub weightedIn : BagSheet → Parts → Gases
+weightedIn s parts = weightedGases (weightsOf (s .class)) (parts .first .rate) (parts .second .rate) (parts .third .rate)
+
+unfoldable pub resultOf : BagSheet → Parts → TestResult
+resultOf s parts =
+    record {
+      parts = parts;
+      weighted = weightedIn s parts;
+      verdicts = verdictsOf (weightedIn s parts) (s .limits);
+      fuel = fuelIn (s .fuel) (weightedIn s parts);
+    }
+
+-- ---- the answer: "a full answer or .. one numbered refusal with its place"
+abbrev pub handUp : Judged → Answer → Answer
+handUp Accepted next = next
+handUp (judged.Refused refusal) next = Refused refusal
+
+unfoldable pub testAnswer : BagSheet → Answer
+testAnswer s =
+    handUp (judgeSheet s) (handUp (judgeLate s (readingsIn s)) (Result (resultOf s (partsIn s (readingsIn s)))))

@@ -1,0 +1,246 @@
+// The emission sheet (01, Bag sheet and figures): a bag sheet becomes the full result of a test or its first refusal.
+use arith::Ends;
+use bag::BagSheet;
+use bag::Fuel;
+use bag::Limits;
+use bag::Part;
+use bag::Triple;
+use part::Gases;
+use part::PartResult;
+use part::Sides;
+use refusal::Judged;
+use refusal::Refusal;
+use stage::Verdict;
+use stage::Weights;
+ghost use mathlib.Core.Path.{_≡_};
+ghost use mathlib.Core.List.{[], _∷_};
+ghost use Rattle.refusal.specs.declared.Refusal.the-variants.{Parts as WrongParts, Dilution, Humidity};
+ghost use Rattle.refusal.specs.Judging.{checked, checkedAll};
+ghost use Rattle.bag.specs.Sheet.{ofThird};
+ghost use Rattle.bag.specs.Sound.{Ranged};
+ghost use Rattle.part.specs.Part.{diluted, dryEnough};
+ghost use Rattle.part.specs.Room.{ReadingSizes, TripleRanges, PartRanges};
+ghost use Rattle.emission.specs.Test.{readingsIn, dilution, humidity, judgeLate, nothing, noPart, thirdPart, partsIn, weightedGases, verdictsOf, fuelIn, resultOf, handUp, testAnswer};
+ghost use Rattle.emission.specs.Room.{LateRanges, PartsRanges, RateSizes, WeighRanges, LimitRanges, FuelSheet, ResultRanges};
+
+// The readings of a test, converted once.
+pub struct Readings {
+    pub first: Sides,
+    pub second: Sides,
+    pub third: Sides,
+}
+
+pub struct Parts {
+    pub first: PartResult,
+    pub second: PartResult,
+    pub third: PartResult,
+}
+
+pub struct Verdicts {
+    pub hc: Verdict,
+    pub co: Verdict,
+    pub nox: Verdict,
+    pub co2: Verdict,
+}
+
+// Weighted results in micrograms/km, the fuel in microlitres per 100 km. A third part that the class does not have is all 0.
+pub struct TestResult {
+    pub parts: Parts,
+    pub weighted: Gases,
+    pub verdicts: Verdicts,
+    pub fuel: Ends,
+}
+
+pub enum Answer {
+    Result(TestResult),
+    Refused(Refusal),
+}
+
+fn readings_in(s: BagSheet) -> Readings
+    ensures { λ r. ⌜ r ≡ readingsIn s ⌝ }
+{
+    Readings {
+        first: part::sides_of(s.first),
+        second: part::sides_of(s.second),
+        third: part::sides_of(s.third),
+    }
+}
+
+// Refusal 13.
+fn dilution_check(part: u32, triple: Triple, bag: Gases, rest: Judged) -> Judged
+    requires { ⌜ (TripleRanges triple) × (ReadingSizes bag) ⌝ }
+    ensures { λ r. ⌜ r ≡ checked (diluted triple bag) (Dilution part) rest ⌝ }
+{
+    refusal::check(
+        part::is_diluted(triple, bag),
+        Refusal::Dilution { part },
+        rest,
+    )
+}
+
+// Refusal 14.
+fn humidity_check(part: u32, p: Part, rest: Judged) -> Judged
+    requires { ⌜ Ranged p ⌝ }
+    ensures { λ r. ⌜ r ≡ checked (dryEnough p) (Humidity part) rest ⌝ }
+{
+    refusal::check(part::is_dry_enough(p), Refusal::Humidity { part }, rest)
+}
+
+// Parts past the class's number are not read.
+fn third_dilution(class: u32, triple: Triple, bag: Gases, rest: Judged) -> Judged
+    requires { ⌜ (TripleRanges triple) × (ReadingSizes bag) ⌝ }
+    ensures { λ r. ⌜ r ≡ checkedAll (ofThird class (dilution 3 (diluted triple bag) ∷ [])) rest ⌝ }
+{
+    if class == 3 {
+        return dilution_check(3, triple, bag, rest);
+    }
+    rest
+}
+
+fn third_humidity(class: u32, third: Part, rest: Judged) -> Judged
+    requires { ⌜ (class ≡ 3 → Ranged third) ⌝ }
+    ensures { λ r. ⌜ r ≡ checkedAll (ofThird class (humidity 3 (dryEnough third) ∷ [])) rest ⌝ }
+{
+    if class == 3 {
+        return humidity_check(3, third, rest);
+    }
+    rest
+}
+
+// Refusals 13 and 14, 13 over all parts first.
+fn judge_late(s: BagSheet, r: Readings) -> Judged
+    requires { ⌜ LateRanges s r ⌝ }
+    ensures { λ j. ⌜ j ≡ judgeLate s r ⌝ }
+{
+    let triple = s.triple;
+    let humid_3 = third_humidity(s.class, s.third, Judged::Accepted);
+    let humid_2 = humidity_check(2, s.second, humid_3);
+    let humid_1 = humidity_check(1, s.first, humid_2);
+    let rich_3 = third_dilution(s.class, triple, r.third.bag, humid_1);
+    let rich_2 = dilution_check(2, triple, r.second.bag, rich_3);
+    dilution_check(1, triple, r.first.bag, rich_2)
+}
+
+fn no_gases() -> Gases
+    ensures { λ r. ⌜ r ≡ nothing ⌝ }
+{
+    Gases {
+        hc: arith::exactly(0),
+        co: arith::exactly(0),
+        nox: arith::exactly(0),
+        co2: arith::exactly(0),
+    }
+}
+
+fn no_part() -> PartResult
+    ensures { λ r. ⌜ r ≡ noPart ⌝ }
+{
+    PartResult {
+        volume: arith::exactly(0),
+        mass: no_gases(),
+        rate: no_gases(),
+    }
+}
+
+fn third_part(s: BagSheet, sides: Sides) -> PartResult
+    requires { ⌜ (s .class ≡ 3 → PartRanges (s .triple) (s .third) sides) ⌝ }
+    ensures { λ r. ⌜ r ≡ thirdPart s sides ⌝ }
+{
+    let class = s.class;
+    if class == 3 {
+        return part::part_of(s.triple, s.third, sides);
+    }
+    no_part()
+}
+
+fn parts_in(s: BagSheet, r: Readings) -> Parts
+    requires { ⌜ PartsRanges s r ⌝ }
+    ensures { λ p. ⌜ p ≡ partsIn s r ⌝ }
+{
+    Parts {
+        first: part::part_of(s.triple, s.first, r.first),
+        second: part::part_of(s.triple, s.second, r.second),
+        third: third_part(s, r.third),
+    }
+}
+
+fn weighted_gases(w: Weights, first: Gases, second: Gases, third: Gases) -> Gases
+    requires { ⌜ WeighRanges w first second third ⌝ }
+    ensures { λ r. ⌜ r ≡ weightedGases w first second third ⌝ }
+{
+    Gases {
+        hc: stage::weighted(w, first.hc, second.hc, third.hc),
+        co: stage::weighted(w, first.co, second.co, third.co),
+        nox: stage::weighted(w, first.nox, second.nox, third.nox),
+        co2: stage::weighted(w, first.co2, second.co2, third.co2),
+    }
+}
+
+fn verdicts_of(weighted: Gases, limits: Limits) -> Verdicts
+    requires { ⌜ LimitRanges limits ⌝ }
+    ensures { λ r. ⌜ r ≡ verdictsOf weighted limits ⌝ }
+{
+    Verdicts {
+        hc: stage::verdict_of(weighted.hc, limits.hc),
+        co: stage::verdict_of(weighted.co, limits.co),
+        nox: stage::verdict_of(weighted.nox, limits.nox),
+        co2: stage::verdict_of(weighted.co2, limits.co2),
+    }
+}
+
+fn fuel_in(f: Fuel, weighted: Gases) -> Ends
+    requires { ⌜ (FuelSheet f) × (RateSizes weighted) ⌝ }
+    ensures { λ r. ⌜ r ≡ fuelIn f weighted ⌝ }
+{
+    stage::fuel(
+        f.k,
+        f.hc,
+        f.co,
+        f.co2,
+        f.density,
+        weighted.hc,
+        weighted.co,
+        weighted.co2,
+    )
+}
+
+fn result_of(s: BagSheet, parts: Parts) -> TestResult
+    requires { ⌜ ResultRanges s parts ⌝ }
+    ensures { λ r. ⌜ r ≡ resultOf s parts ⌝ }
+{
+    let w = stage::weights_of(s.class);
+    let weighted = weighted_gases(w, parts.first.rate, parts.second.rate, parts.third.rate);
+    TestResult {
+        parts,
+        weighted,
+        verdicts: verdicts_of(weighted, s.limits),
+        fuel: fuel_in(s.fuel, weighted),
+    }
+}
+
+// A refusal, as an answer. It is asked of a refused stage alone.
+fn refused(j: Judged) -> Answer
+    ensures { λ r. ⌜ r ≡ handUp j (Answer.Refused WrongParts) ⌝ }
+{
+    match j {
+        Judged::Refused(refusal) => Answer::Refused(refusal),
+        Judged::Accepted => Answer::Refused(Refusal::Parts),
+    }
+}
+
+// The full result of a test, or its first refusal, 10 to 14.
+pub fn test(s: BagSheet) -> Answer
+    ensures { λ r. ⌜ r ≡ testAnswer s ⌝ }
+{
+    let sheet = bag::judge(s);
+    let Judged::Accepted = sheet else {
+        return refused(sheet);
+    };
+    let readings = readings_in(s);
+    let late = judge_late(s, readings);
+    let Judged::Accepted = late else {
+        return refused(late);
+    };
+    let parts = parts_in(s, readings);
+    Answer::Result(result_of(s, parts))
+}
