@@ -15,7 +15,7 @@ pub fn number(n: u64) {
 }
 
 // How far x lies from 0.
-fn magnitude(x: i64) -> u64
+pub fn magnitude(x: i64) -> u64
     ensures { λ r. ⌜ r ≡ natAbs x ⌝ }
 {
     if x < 0 {
@@ -33,6 +33,13 @@ pub fn signed(x: i64) {
         text(b" ");
     }
     io::print_decimal(STDOUT_FILENO, magnitude(x));
+}
+
+// A number of tenths, with its point and a space before it.
+pub fn tenths(n: u64) {
+    number(n / 10);
+    text(b".");
+    io::print_decimal(STDOUT_FILENO, n % 10);
 }
 
 // The two ends of a number.
