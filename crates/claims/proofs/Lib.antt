@@ -1,0 +1,2 @@
+pub mod Coincide
+pub mod Unique
