@@ -1,2 +1,3 @@
 pub mod Coincide
 pub mod Unique
+pub mod Table

@@ -5,7 +5,6 @@ use mathlib.Core.List.{List}
 use Prim.Native.Nat.{ℕ}
 use contract.Lifetimes.{Lfts}
 use borrow.Fn.Kinds.{Dens, resT, endedOf}
-use denote.Ref.{ptr, now}
 use denote.Triple.Clauses.{Lasts, atExit}
 use Rattle.claims.proofs.Coincide.{Coincide}
 use Rattle.trace.proofs.choose.Reads as choose
