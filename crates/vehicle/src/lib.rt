@@ -11,7 +11,8 @@ ghost use Rattle.refusal.specs.declared.Refusal.the-variants.{Vehicle};
 ghost use Rattle.vehicle.specs.Sheet.{engineChecks, gearGood, gearRefusal, judgeGears, judgeVehicle, Reach};
 
 // Power in 0.1 kW, mass in kg, rated and idle speed per minute, and of each gear ndv in 0.01 per minute per km/h. Only the first `gears` of them are
-// read.
+// read. It crosses the C boundary as it is.
+#[repr(C)]
 pub struct VehicleSheet {
     pub power: u32,
     pub mass: u32,
