@@ -1,0 +1,233 @@
+//! The gear sheet (01, Shift speeds to Corrections), refusals 1 to 9.
+
+use crate::trace::{self, Phase, Second};
+use crate::{at, check, nowhere, Refusal};
+
+/// The vehicle sheet in the paper's letters: P in 0.1 kW, m in kg, s and n per minute, ndv in 0.01 per minute per km/h.
+#[derive(Clone, Copy, Debug, PartialEq, Eq)]
+pub struct Vehicle {
+    pub p: u32,
+    pub m: u32,
+    pub s: u32,
+    pub n: u32,
+    pub ng: u32,
+    pub ndv: [u32; 8],
+}
+
+/// Refusals 5, 6 and 7.
+fn judge(v: &Vehicle) -> Result<(), Refusal> {
+    check((1..=3000).contains(&v.p), at(5, 1))?;
+    check((30..=1000).contains(&v.m), at(5, 2))?;
+    check((1000..=20000).contains(&v.s), at(5, 3))?;
+    check((300..=3000).contains(&v.n) && v.n <= v.s - 500, at(5, 4))?;
+    check((3..=8).contains(&v.ng), at(5, 5))?;
+    let ndv = &v.ndv[..v.ng as usize];
+    for (gear, each) in (1..).zip(ndv) {
+        check((1000..=100_000).contains(each), at(5, 5 + gear))?;
+    }
+    for (gear, pair) in (2..).zip(ndv.windows(2)) {
+        check(pair[1] < pair[0], at(6, gear))?;
+    }
+    check(19 * v.p <= 150 * (v.m + 75), nowhere(7))
+}
+
+/// 1 in the units of the exponential's ends.
+const ONE: i128 = 1 << 32;
+
+/// The ends of e to the power -x, in units of 1/2^32, for P and m of an accepted sheet.
+///
+/// ```
+/// let (lower, upper) = plain::gear::exponential(1, 1000);
+/// assert!(lower < upper && upper < 1 << 32);
+/// ```
+pub fn exponential(p: u32, m: u32) -> (i128, i128) {
+    let (mut a, mut b) = (vec![ONE], vec![ONE]);
+    for k in 1..=24 {
+        let divisor = 100 * (i128::from(m) + 75) * k as i128;
+        a.push(a[k - 1] * 19 * i128::from(p) / divisor);
+        b.push((b[k - 1] * 19 * i128::from(p) + divisor - 1) / divisor);
+    }
+    let every_other = |terms: &[i128]| -> i128 { terms.iter().step_by(2).sum() };
+    let lower = every_other(&a[0..=22]) - every_other(&b[1..=23]);
+    let upper = every_other(&b[0..=24]) - every_other(&a[1..=23]);
+    (lower, upper)
+}
+
+/// The shift speeds of a vehicle: for each gear i from 1 on, ndv(i) and the two sides that 10 x speed x ndv(i) x 2^32 is held against.
+pub struct Speeds {
+    pub ndv: Vec<i128>,
+    pub lower: Vec<i128>,
+    pub upper: Vec<i128>,
+}
+
+/// The upshift speeds i to i+1, for i from 1 to ng-1, as engine speeds times 10,000 x 2^32.
+pub fn speeds(v: &Vehicle) -> Speeds {
+    let ends = exponential(v.p, v.m);
+    let (s, n) = (i128::from(v.s), i128::from(v.n));
+    let side = |gear: u32, e: i128| {
+        let tenth = if gear == 1 { 1000 * ONE } else { 0 };
+        (5753 * e - tenth) * (s - n) + 10_000 * ONE * n
+    };
+    let gears = 1..v.ng;
+    Speeds {
+        ndv: gears.clone().map(|i| i128::from(v.ndv[i as usize - 1])).collect(),
+        lower: gears.clone().map(|i| side(i, ends.0)).collect(),
+        upper: gears.map(|i| side(i, ends.1)).collect(),
+    }
+}
+
+impl Speeds {
+    /// How many of the first `few` shift speeds the speed is above; nothing where one of them is too close to call.
+    fn above(&self, few: usize, speed: u32) -> Option<u8> {
+        let mut above = 0;
+        for i in 0..few {
+            let engine = 10 * i128::from(speed) * self.ndv[i] * ONE;
+            if engine > self.upper[i] {
+                above += 1;
+            } else if engine >= self.lower[i] {
+                return None;
+            }
+        }
+        Some(above)
+    }
+
+    /// The gear before corrections of a second outside stop. Downshift i to i-1 is the upshift i-2 to i-1, so the ng-2 downshift speeds are the
+    /// first ng-2 upshift speeds.
+    fn own(&self, second: &Second) -> Option<u8> {
+        let upshifts = self.ndv.len();
+        match second.phase {
+            Phase::Stop => Some(0),
+            Phase::Acceleration => Some(1 + self.above(upshifts, second.speed)?),
+            Phase::Cruise | Phase::Deceleration => Some(2 + self.above(upshifts - 1, second.speed)?),
+        }
+    }
+}
+
+fn is_stop(seconds: &[Second], k: usize) -> bool {
+    seconds[k].phase == Phase::Stop
+}
+
+/// "The last five seconds of a run of stop seconds are gear 1, earlier ones gear 0."
+fn stop_gears(seconds: &[Second], row: &mut [u8]) {
+    for k in 0..seconds.len() {
+        if is_stop(seconds, k) {
+            let left = seconds[k..].iter().take_while(|second| second.phase == Phase::Stop).count();
+            row[k] = u8::from(left <= 5);
+        }
+    }
+}
+
+/// "A deceleration run directly after an acceleration run: the smaller of its own gear and that run's last gear."
+fn correction_1(seconds: &[Second], row: &mut [u8]) {
+    let before = row.to_vec();
+    for k in 0..seconds.len() {
+        if seconds[k].phase != Phase::Deceleration {
+            continue;
+        }
+        let ahead = (0..k).rev().find(|&j| seconds[j].phase != Phase::Deceleration);
+        if let Some(last) = ahead.filter(|&j| seconds[j].phase == Phase::Acceleration) {
+            row[k] = before[k].min(before[last]);
+        }
+    }
+}
+
+/// "'No 1. gear': 1 becomes 2."
+fn correction_2(seconds: &[Second], row: &mut [u8]) {
+    for k in 0..seconds.len() {
+        if !is_stop(seconds, k) && seconds[k].no_first_gear && row[k] == 1 {
+            row[k] = 2;
+        }
+    }
+}
+
+/// "'No gear-shift': the preceding second's gear, unless that second is a stop; where this puts 1 on a 'no 1. gear' second, 2."
+fn correction_3(seconds: &[Second], row: &mut [u8]) {
+    for k in 1..seconds.len() {
+        if !is_stop(seconds, k) && seconds[k].no_gear_shift && !is_stop(seconds, k - 1) {
+            row[k] = if row[k - 1] == 1 && seconds[k].no_first_gear { 2 } else { row[k - 1] };
+        }
+    }
+}
+
+/// "Acceleration after acceleration: never below the preceding gear."
+fn correction_4(seconds: &[Second], row: &mut [u8]) {
+    for k in 1..seconds.len() {
+        if seconds[k - 1].phase == Phase::Acceleration && seconds[k].phase == Phase::Acceleration {
+            row[k] = row[k].max(row[k - 1]);
+        }
+    }
+}
+
+/// "At most one step up or down from the preceding second; a larger one is cut to one."
+fn correction_5(seconds: &[Second], row: &mut [u8]) {
+    for k in 1..seconds.len() {
+        if !is_stop(seconds, k) {
+            row[k] = row[k].clamp(row[k - 1].saturating_sub(1), row[k - 1] + 1);
+        }
+    }
+}
+
+/// The first second past the run of one gear that starts at second k; a run "holds no stop second and ends at one".
+fn run_end(seconds: &[Second], row: &[u8], k: usize) -> usize {
+    (k..seconds.len()).find(|&j| is_stop(seconds, j) || row[j] != row[k]).unwrap_or(seconds.len())
+}
+
+/// "A run of 1 to 4 seconds of one gear, with the same other gear on both sides, neither neighbour a stop, takes that gear; unless that is 1 and
+/// the run has a 'no 1. gear' second. .. a replaced run and the two beside it become one run, which counts as judged."
+fn correction_6(seconds: &[Second], row: &mut [u8]) {
+    let mut first = 0;
+    while first < seconds.len() {
+        if is_stop(seconds, first) {
+            first += 1;
+            continue;
+        }
+        let end = run_end(seconds, row, first);
+        let between = first > 0 && !is_stop(seconds, first - 1) && end < seconds.len() && !is_stop(seconds, end);
+        let short = end - first <= 4;
+        if !between || !short || row[first - 1] != row[end] {
+            first = end;
+            continue;
+        }
+        let other = row[end];
+        if other == 1 && seconds[first..end].iter().any(|second| second.no_first_gear) {
+            first = end;
+            continue;
+        }
+        row[first..end].fill(other);
+        first = run_end(seconds, row, end);
+    }
+}
+
+/// "Outside stop, the clutch is out exactly below 10.0 km/h"; at a stop it is out.
+fn clutch(second: &Second) -> u8 {
+    u8::from(second.phase == Phase::Stop || second.speed < 100)
+}
+
+/// The gear and clutch of every second into the buffer from the start on; or the first refusal, and the buffer as it was lent.
+///
+/// ```
+/// use plain::gear::{write_gears, Vehicle};
+/// let vehicle = Vehicle { p: 300, m: 200, s: 8000, n: 1200, ng: 3, ndv: [20_000, 12_000, 9_000, 0, 0, 0, 0, 0] };
+/// let stop = [b'W', b'T', b'R', 0, 1, 0, 1, 0, 0, 0, 0, 0];
+/// let mut buffer = [7; 4];
+/// write_gears(&stop, &vehicle, &mut buffer, 1).unwrap();
+/// assert_eq!(buffer, [7, 1, 1, 7]);
+/// assert_eq!(write_gears(&stop, &vehicle, &mut buffer, 3).unwrap_err().number, 8);
+/// ```
+pub fn write_gears(file: &[u8], vehicle: &Vehicle, buffer: &mut [u8], start: usize) -> Result<(), Refusal> {
+    let seconds = trace::read(file)?;
+    judge(vehicle)?;
+    let room = buffer.len().checked_sub(start);
+    check(room.is_some_and(|room| room >= 2 * seconds.len()), nowhere(8))?;
+    let speeds = speeds(vehicle);
+    let mut row =
+        (1..).zip(&seconds).map(|(place, second)| speeds.own(second).ok_or(at(9, place))).collect::<Result<Vec<u8>, Refusal>>()?;
+    stop_gears(&seconds, &mut row);
+    for correction in [correction_1, correction_2, correction_3, correction_4, correction_5, correction_6] {
+        correction(&seconds, &mut row);
+    }
+    for ((out, gear), second) in buffer[start..].chunks_mut(2).zip(row).zip(&seconds) {
+        out.copy_from_slice(&[gear, clutch(second)]);
+    }
+    Ok(())
+}

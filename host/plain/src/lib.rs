@@ -1,0 +1,38 @@
+//! The paper's sheets a second time, in plain Rust and from the paper's sentences alone.
+//!
+//! It shares no line with the proved core, so that where both give the same bytes the paper was read the same way twice. It favours what is
+//! easy to compare with the paper over what is fast: whole rows are copied, and numbers are 128 bits wide where 64 would need an argument.
+
+pub mod gear;
+pub mod trace;
+
+/// A row of the paper's table of refusals; 0 stands where the table has no place.
+#[derive(Clone, Copy, Debug, PartialEq, Eq)]
+pub struct Refusal {
+    pub number: u32,
+    /// The second, the part, the gear or the vehicle sheet's field.
+    pub at: u32,
+    /// The field or the gas of a part.
+    pub within: u32,
+    /// 1 bag, 2 air.
+    pub side: u32,
+}
+
+/// A refusal that names no place, as 3: the file's length.
+pub(crate) fn nowhere(number: u32) -> Refusal {
+    at(number, 0)
+}
+
+/// A refusal that names one number, as 4: the second.
+pub(crate) fn at(number: u32, at: u32) -> Refusal {
+    Refusal { number, at, within: 0, side: 0 }
+}
+
+/// The refusal where a check fails, so that checks stand in the table's order and `?` ends the run at the first.
+pub(crate) fn check(holds: bool, refusal: Refusal) -> Result<(), Refusal> {
+    if holds {
+        Ok(())
+    } else {
+        Err(refusal)
+    }
+}
