@@ -1,0 +1,83 @@
+/*
+ * The core behind two pipes, for a host that cannot link x86-64 code (host/core/src/piped.rs). It reads calls from standard input until that
+ * ends, and answers each on standard output, all numbers as they stand in memory:
+ *
+ *   'g' trace, vehicle, buffer, start   ->  outcome, the buffer's bytes
+ *   'p' normal, reduced                 ->  outcome
+ *   'c' normal, reduced, switch (1 byte) -> which one (32 bits)
+ *
+ * where a slice is its length (64 bits) and its bytes.
+ */
+#include <stdio.h>
+
+#include "ylhovesko.h"
+
+enum { MOST = 1 << 20 };
+
+struct slice {
+    uint64_t length;
+    uint8_t bytes[MOST];
+};
+
+static struct slice one, two;
+
+static int take(void *to, size_t length)
+{
+    return fread(to, 1, length, stdin) == length;
+}
+
+static int take_slice(struct slice *s)
+{
+    return take(&s->length, sizeof s->length) && s->length <= MOST && take(s->bytes, (size_t)s->length);
+}
+
+static int give(const void *from, size_t length)
+{
+    return fwrite(from, 1, length, stdout) == length;
+}
+
+static int gears(void)
+{
+    ylhovesko_vehicle vehicle;
+    uint64_t start;
+    ylhovesko_outcome o;
+
+    if (!take_slice(&one) || !take(&vehicle, sizeof vehicle) || !take_slice(&two) || !take(&start, sizeof start))
+        return 0;
+    o = ylhovesko_gears(one.bytes, (size_t)one.length, vehicle, two.bytes, (size_t)two.length, (size_t)start);
+    return give(&o, sizeof o) && give(two.bytes, (size_t)two.length);
+}
+
+static int judge_pair(void)
+{
+    ylhovesko_outcome o;
+
+    if (!take_slice(&one) || !take_slice(&two))
+        return 0;
+    o = ylhovesko_judge_pair(one.bytes, (size_t)one.length, two.bytes, (size_t)two.length);
+    return give(&o, sizeof o);
+}
+
+static int chosen(void)
+{
+    uint8_t reduced_speed;
+    uint32_t which;
+
+    if (!take_slice(&one) || !take_slice(&two) || !take(&reduced_speed, 1))
+        return 0;
+    which = ylhovesko_chosen(one.bytes, (size_t)one.length, two.bytes, (size_t)two.length, reduced_speed != 0);
+    return give(&which, sizeof which);
+}
+
+int main(void)
+{
+    int call;
+
+    while ((call = getchar()) != EOF) {
+        int done = call == 'g' ? gears() : call == 'p' ? judge_pair() : call == 'c' ? chosen() : 0;
+
+        if (!done || fflush(stdout) != 0)
+            return 1;
+    }
+    return 0;
+}

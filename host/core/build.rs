@@ -1,0 +1,31 @@
+//! On x86-64 the proved archive is linked. Elsewhere its code cannot be, and a program over it (host/c/serve.c, built by host/x86) is called through
+//! pipes instead, so that the tests run the proved code itself on every machine.
+
+use std::env::var;
+use std::path::Path;
+use std::process::Command;
+
+fn main() {
+    println!("cargo:rustc-check-cfg=cfg(linked)");
+    let host = Path::new(&var("CARGO_MANIFEST_DIR").unwrap()).join("..").canonicalize().unwrap();
+    let archives = host.join("../target/staticlib");
+    let archive = archives.join("libboundary.a");
+    assert!(archive.exists(), "no {}: run `rt staticlib boundary` first", archive.display());
+    println!("cargo:rerun-if-changed={}", archive.display());
+    if var("CARGO_CFG_TARGET_ARCH").unwrap() == "x86_64" {
+        println!("cargo:rustc-cfg=linked");
+        println!("cargo:rustc-link-search=native={}", archives.display());
+        println!("cargo:rustc-link-lib=static=boundary");
+        return;
+    }
+    let runner = host.join("x86");
+    let source = host.join("c/serve.c");
+    let program = Path::new(&var("OUT_DIR").unwrap()).join("serve");
+    let built = Command::new(&runner).arg("build").arg(&source).arg(&program).status().unwrap();
+    assert!(built.success(), "{} does not build", source.display());
+    for read in [&runner, &source, &host.join("../include/ylhovesko.h")] {
+        println!("cargo:rerun-if-changed={}", read.display());
+    }
+    println!("cargo:rustc-env=YLHOVESKO_RUNNER={}", runner.display());
+    println!("cargo:rustc-env=YLHOVESKO_SERVE={}", program.display());
+}

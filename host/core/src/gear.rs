@@ -1,0 +1,53 @@
+//! The gear sheet: a trace and a vehicle become a gear and a clutch for each second.
+
+use crate::{calls, Refusal};
+
+/// The vehicle sheet; `ylhovesko_vehicle` of include/ylhovesko.h, which has the units and ranges. Only the first `gears` of `ndv` are read.
+#[repr(C)]
+#[derive(Clone, Copy, Debug, PartialEq, Eq)]
+pub struct Vehicle {
+    pub power: u32,
+    pub mass: u32,
+    pub rated: u32,
+    pub idle: u32,
+    pub gears: u32,
+    pub ndv: [u32; 8],
+}
+
+/// Writes the gear and the clutch of every second of the trace into the buffer from the byte `start` on; or gives the first of the refusals 1 to
+/// 9, and the buffer stays as it was.
+///
+/// ```
+/// use ylhovesko::gear::{gears, Vehicle};
+/// let vehicle = Vehicle { power: 300, mass: 200, rated: 8000, idle: 1200, gears: 3, ndv: [20_000, 12_000, 9_000, 0, 0, 0, 0, 0] };
+/// let stop = [b'W', b'T', b'R', 0, 1, 0, 1, 0, 0, 0, 0, 0];
+/// let mut buffer = [7; 4];
+/// gears(&stop, vehicle, &mut buffer, 1).unwrap();
+/// assert_eq!(buffer, [7, 1, 1, 7]);
+/// assert_eq!(gears(&stop, vehicle, &mut buffer, 3).unwrap_err().number, 8);
+/// ```
+pub fn gears(trace: &[u8], vehicle: Vehicle, buffer: &mut [u8], start: usize) -> Result<(), Refusal> {
+    calls::gears(trace, vehicle, buffer, start).told()
+}
+
+/// Judges the two traces of a cycle: refusals 1 to 4 of the normal one, then of the reduced one, then 15.
+pub fn judge_pair(normal: &[u8], reduced: &[u8]) -> Result<(), Refusal> {
+    calls::judge_pair(normal, reduced).told()
+}
+
+/// The one of two lent traces that the bench's reduced-speed switch names, itself and not a copy; the empty first part of the normal one where
+/// [`judge_pair`] refuses them.
+///
+/// ```
+/// let stop = [b'W', b'T', b'R', 0, 1, 0, 1, 0, 0, 0, 0, 0];
+/// assert_eq!(ylhovesko::gear::choose(&stop, &stop.clone(), false).as_ptr(), stop.as_ptr());
+/// assert!(ylhovesko::gear::choose(&stop, &[], false).is_empty());
+/// ```
+pub fn choose<'a>(normal: &'a [u8], reduced: &'a [u8], switch: bool) -> &'a [u8] {
+    match calls::chosen(normal, reduced, switch) {
+        0 => &normal[..0],
+        1 => normal,
+        2 => reduced,
+        other => unreachable!("the core names trace {other} of two"),
+    }
+}

@@ -1,0 +1,45 @@
+//! The proved core, called from Rust.
+//!
+//! Nothing is worked out here: each function lends its slices to the compiled core and turns the numbers that come back into a `Result` or a slice.
+//! A sheet has its own module.
+
+pub mod gear;
+
+#[cfg(linked)]
+#[path = "linked.rs"]
+mod calls;
+#[cfg(not(linked))]
+#[path = "piped.rs"]
+mod calls;
+
+/// Why an input was refused, and where: a row of the paper's table. 0 stands where the table has no place.
+#[derive(Clone, Copy, Debug, PartialEq, Eq)]
+pub struct Refusal {
+    pub number: u32,
+    /// The second, the part, the gear or the vehicle sheet's field.
+    pub at: u32,
+    /// The field or the gas of a part.
+    pub within: u32,
+    /// 1 bag, 2 air.
+    pub side: u32,
+}
+
+/// What crosses the boundary in place of a `Result`; `ylhovesko_outcome` of include/ylhovesko.h.
+#[repr(C)]
+struct Outcome {
+    number: u32,
+    at: u32,
+    within: u32,
+    side: u32,
+}
+
+impl Outcome {
+    fn told(self) -> Result<(), Refusal> {
+        let Outcome { number, at, within, side } = self;
+        if number == 0 {
+            assert_eq!((at, within, side), (0, 0, 0), "an accepted input has no place");
+            return Ok(());
+        }
+        Err(Refusal { number, at, within, side })
+    }
+}

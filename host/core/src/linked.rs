@@ -1,0 +1,32 @@
+//! The core's calls where its archive is linked.
+
+use crate::gear::Vehicle;
+use crate::Outcome;
+
+// A slice crosses as its pointer and then its length.
+extern "C" {
+    fn ylhovesko_gears(
+        trace: *const u8,
+        trace_length: usize,
+        vehicle: Vehicle,
+        buffer: *mut u8,
+        buffer_length: usize,
+        start: usize,
+    ) -> Outcome;
+    fn ylhovesko_judge_pair(normal: *const u8, normal_length: usize, reduced: *const u8, reduced_length: usize) -> Outcome;
+    fn ylhovesko_chosen(normal: *const u8, normal_length: usize, reduced: *const u8, reduced_length: usize, switch: bool) -> u32;
+}
+
+// Safety of the three: a slice's pointer is not null and leads to its bytes, a `&mut` overlaps nothing, and the core keeps none of them.
+
+pub fn gears(trace: &[u8], vehicle: Vehicle, buffer: &mut [u8], start: usize) -> Outcome {
+    unsafe { ylhovesko_gears(trace.as_ptr(), trace.len(), vehicle, buffer.as_mut_ptr(), buffer.len(), start) }
+}
+
+pub fn judge_pair(normal: &[u8], reduced: &[u8]) -> Outcome {
+    unsafe { ylhovesko_judge_pair(normal.as_ptr(), normal.len(), reduced.as_ptr(), reduced.len()) }
+}
+
+pub fn chosen(normal: &[u8], reduced: &[u8], switch: bool) -> u32 {
+    unsafe { ylhovesko_chosen(normal.as_ptr(), normal.len(), reduced.as_ptr(), reduced.len(), switch) }
+}

@@ -1,0 +1,93 @@
+//! The core's calls where its archive cannot be linked: a program over it answers through pipes. host/c/serve.c has the form of a call.
+
+use std::cell::RefCell;
+use std::io::{Read, Write};
+use std::process::{Child, ChildStdin, ChildStdout, Command, Stdio};
+
+use crate::gear::Vehicle;
+use crate::Outcome;
+
+struct Server {
+    child: Child,
+    to: Option<ChildStdin>,
+    from: ChildStdout,
+}
+
+impl Server {
+    fn start() -> Server {
+        let mut child = Command::new(env!("YLHOVESKO_RUNNER"))
+            .args(["run", env!("YLHOVESKO_SERVE")])
+            .stdin(Stdio::piped())
+            .stdout(Stdio::piped())
+            .spawn()
+            .expect("the core's program starts");
+        let to = child.stdin.take();
+        let from = child.stdout.take().unwrap();
+        Server { child, to, from }
+    }
+
+    fn call(&mut self, call: &[u8], answer: &mut [u8]) {
+        self.to.as_mut().unwrap().write_all(call).expect("the core's program reads");
+        self.from.read_exact(answer).expect("the core's program answers");
+    }
+}
+
+impl Drop for Server {
+    fn drop(&mut self) {
+        self.to = None;
+        let _ = self.child.wait();
+    }
+}
+
+thread_local! {
+    static SERVER: RefCell<Server> = RefCell::new(Server::start());
+}
+
+fn put_slice(call: &mut Vec<u8>, slice: &[u8]) {
+    call.extend((slice.len() as u64).to_le_bytes());
+    call.extend(slice);
+}
+
+fn pair(kind: u8, normal: &[u8], reduced: &[u8]) -> Vec<u8> {
+    let mut call = vec![kind];
+    put_slice(&mut call, normal);
+    put_slice(&mut call, reduced);
+    call
+}
+
+fn number(answer: &[u8], at: usize) -> u32 {
+    u32::from_le_bytes(answer[4 * at..4 * at + 4].try_into().unwrap())
+}
+
+fn outcome(answer: &[u8]) -> Outcome {
+    Outcome { number: number(answer, 0), at: number(answer, 1), within: number(answer, 2), side: number(answer, 3) }
+}
+
+pub fn gears(trace: &[u8], vehicle: Vehicle, buffer: &mut [u8], start: usize) -> Outcome {
+    let mut call = vec![b'g'];
+    put_slice(&mut call, trace);
+    let Vehicle { power, mass, rated, idle, gears, ndv } = vehicle;
+    for word in [power, mass, rated, idle, gears].into_iter().chain(ndv) {
+        call.extend(word.to_le_bytes());
+    }
+    put_slice(&mut call, buffer);
+    call.extend((start as u64).to_le_bytes());
+    let mut answer = vec![0; 16 + buffer.len()];
+    SERVER.with_borrow_mut(|server| server.call(&call, &mut answer));
+    buffer.copy_from_slice(&answer[16..]);
+    outcome(&answer)
+}
+
+pub fn judge_pair(normal: &[u8], reduced: &[u8]) -> Outcome {
+    let mut answer = [0; 16];
+    SERVER.with_borrow_mut(|server| server.call(&pair(b'p', normal, reduced), &mut answer));
+    outcome(&answer)
+}
+
+pub fn chosen(normal: &[u8], reduced: &[u8], switch: bool) -> u32 {
+    let mut call = pair(b'c', normal, reduced);
+    call.push(u8::from(switch));
+    let mut answer = [0; 4];
+    SERVER.with_borrow_mut(|server| server.call(&call, &mut answer));
+    number(&answer, 0)
+}
