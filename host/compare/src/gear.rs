@@ -1,0 +1,285 @@
+//! Cases of the gear sheet: as stored, as made at random, and what each implementation says of one.
+
+use std::fmt;
+
+use plain::gear::{speeds, Speeds};
+use ylhovesko::gear::Vehicle;
+
+use crate::random::Random;
+use crate::{core_told, hex, plain_told, Told};
+
+/// A call of the gear sheet. The buffer's bytes are noise, so that a byte written where none should be is seen.
+#[derive(Clone, PartialEq, Eq)]
+pub struct Case {
+    pub trace: Vec<u8>,
+    pub vehicle: Vehicle,
+    pub buffer: Vec<u8>,
+    pub start: usize,
+}
+
+/// The case as a line of vectors/gear.txt has it, up to its answer.
+impl fmt::Display for Case {
+    fn fmt(&self, f: &mut fmt::Formatter) -> fmt::Result {
+        let Vehicle { power, mass, rated, idle, gears, ndv } = self.vehicle;
+        let trace = if self.trace.is_empty() { "-".into() } else { hex(&self.trace) };
+        write!(f, "{trace} {power} {mass} {rated} {idle} {gears}")?;
+        ndv.iter().try_for_each(|each| write!(f, " {each}"))?;
+        write!(f, " {} {}", self.buffer.len(), self.start)
+    }
+}
+
+/// What the proved core says, and the buffer after it.
+pub fn by_core(case: &Case) -> (Told, Vec<u8>) {
+    let mut buffer = case.buffer.clone();
+    let told = ylhovesko::gear::gears(&case.trace, case.vehicle, &mut buffer, case.start);
+    (core_told(told), buffer)
+}
+
+/// What the second implementation says, and the buffer after it.
+pub fn by_plain(case: &Case) -> (Told, Vec<u8>) {
+    let mut buffer = case.buffer.clone();
+    let told = plain::gear::write_gears(&case.trace, &plain_vehicle(&case.vehicle), &mut buffer, case.start);
+    (plain_told(told), buffer)
+}
+
+fn plain_vehicle(v: &Vehicle) -> plain::gear::Vehicle {
+    plain::gear::Vehicle { p: v.power, m: v.mass, s: v.rated, n: v.idle, ng: v.gears, ndv: v.ndv }
+}
+
+/// The largest power that a mass takes: 19 P <= 150 (m + 75).
+fn most_power(mass: u32) -> u32 {
+    (150 * (mass + 75) / 19).min(3000)
+}
+
+/// Strictly falling ratios: far apart, next to each other, or from one end of the range to the other.
+fn falling(random: &mut Random) -> [u32; 8] {
+    let kind = random.below(4);
+    let mut ndv = [0; 8];
+    let mut above = if kind == 0 { 100_001 } else { random.edged(1009, 100_001) };
+    for (gear, each) in ndv.iter_mut().enumerate() {
+        let least = 1000 + (7 - gear as u32);
+        let next = match kind {
+            1 => above - 1,
+            2 => above * random.from(60, 95) / 100,
+            _ => random.edged(least, above - 1),
+        };
+        above = next.clamp(least, above - 1);
+        *each = above;
+    }
+    ndv
+}
+
+/// A sheet that is accepted, with many of its numbers at or next to a limit.
+fn vehicle(random: &mut Random) -> Vehicle {
+    let mass = random.edged(30, 1000);
+    let power = random.edged(1, most_power(mass));
+    let rated = random.edged(1000, 20_000);
+    let idle = random.edged(300, (rated - 500).min(3000));
+    Vehicle { power, mass, rated, idle, gears: random.from(3, 8), ndv: falling(random) }
+}
+
+/// A sheet on which one speed, the second number, is too close to the upshift speed of one of its gears, or only just not. It is searched for:
+/// an engine speed must come near a whole number that is a speed times a ratio. Near is by 64 units of the exponential more than its ends say, so that
+/// an end that is wrong by less is seen whichever implementation has it.
+fn close_vehicle(random: &mut Random) -> (Vehicle, u32) {
+    loop {
+        let mut found = vehicle(random);
+        found.rated = random.from(8000, 20_000);
+        let shift = speeds(&plain_vehicle(&found));
+        let gear = random.below(u64::from(found.gears) - 1) as usize;
+        let near = 64 * 5753 * i128::from(found.rated - found.idle);
+        let unit = 10_i128 << 32;
+        let product = (shift.upper[gear] + near) / unit;
+        if product * unit < shift.lower[gear] - near {
+            continue;
+        }
+        let fits = |speed: &i128| product % speed == 0 && (1000..=100_000).contains(&(product / speed));
+        let speeds: Vec<i128> = (1..=2000).filter(fits).collect();
+        if speeds.is_empty() {
+            continue;
+        }
+        let speed = random.one_of(&speeds);
+        let ndv = (product / speed) as u32;
+        let (before, after) = (gear as u32, found.gears - 1 - gear as u32);
+        if ndv + before > 100_000 || ndv < 1000 + after {
+            continue;
+        }
+        for i in 0..found.gears {
+            found.ndv[i as usize] = ndv + before - i;
+        }
+        return (found, speed as u32);
+    }
+}
+
+/// One number of the sheet out of its range, out of order, or anything.
+fn damage_vehicle(random: &mut Random, v: &mut Vehicle) {
+    let gear = random.below(8) as usize;
+    match random.below(12) {
+        0 => v.power = random.one_of(&[0, 3001, u32::MAX]),
+        1 => v.mass = random.one_of(&[0, 29, 1001, u32::MAX]),
+        2 => v.rated = random.one_of(&[0, 999, 20_001, u32::MAX]),
+        3 => v.idle = random.one_of(&[0, 299, 3001, u32::MAX]),
+        4 => v.idle = random.one_of(&[v.rated.saturating_sub(500), v.rated.saturating_sub(499), v.rated]),
+        5 => v.gears = random.one_of(&[0, 2, 9, u32::MAX]),
+        6 => v.ndv[gear] = random.one_of(&[0, 999, 100_001, u32::MAX]),
+        7 => v.ndv[gear] = v.ndv[gear.max(1) - 1],
+        8 => v.ndv.swap(gear, (gear + 1) % 8),
+        9 => v.power = (150 * (v.mass + 75) / 19).saturating_add(random.from(0, 2)),
+        10 => v.ndv[gear] = random.one_of(&[1000, 100_000]),
+        _ => {
+            let word = random.word() as u32;
+            let fields = [&mut v.power, &mut v.mass, &mut v.rated, &mut v.idle, &mut v.gears, &mut v.ndv[gear]];
+            *fields.into_iter().nth(random.below(6) as usize).unwrap() = word;
+        }
+    }
+}
+
+/// The tenths just below, at and just above every shift speed, as far as a trace can hold them.
+fn shift_tenths(shift: &Speeds) -> Vec<u32> {
+    let last_below = |gear: usize| (shift.lower[gear] - 1).max(0) / (10 * (shift.ndv[gear] << 32));
+    let around = |gear: usize| (-1..=2).map(move |step| last_below(gear) + step);
+    let all = (0..shift.ndv.len()).flat_map(around);
+    all.filter(|tenth| (0..=2000).contains(tenth)).map(|tenth| tenth as u32).collect()
+}
+
+/// How the seconds of a case are made: which speeds it prefers, how often they change, and how many marks it has.
+struct Style {
+    preferred: Vec<u32>,
+    steady: u64,
+    marks: u64,
+}
+
+fn speed(random: &mut Random, style: &Style, last: u32) -> u32 {
+    match random.below(8) {
+        0 => random.one_of(&[0, 1, 99, 100, 101, 1999, 2000]),
+        1 => random.from(0, 2000),
+        2 => (last + random.from(0, 40)).saturating_sub(20).min(2000),
+        _ if style.preferred.is_empty() => random.from(0, 300),
+        _ => random.one_of(&style.preferred),
+    }
+}
+
+/// The four bytes of each second: runs of one phase, stop runs around 5 and 6 seconds, and speeds that stay for runs of 1 to 6.
+fn seconds(random: &mut Random, style: &Style, count: usize) -> Vec<u8> {
+    let mut bytes = Vec::with_capacity(4 * count);
+    let (mut phase, mut phase_left, mut pace, mut pace_left) = (0, 0, 0, 0);
+    while bytes.len() < 4 * count {
+        if phase_left == 0 {
+            phase = random.one_of(&[0, 1, 1, 2, 2, 3, 3]);
+            phase_left = if phase == 0 { random.from(1, 12) } else { random.one_of(&[1, 2, 3, 4, 5, 6, 9, 20, 60]) };
+        }
+        if pace_left == 0 {
+            pace = speed(random, style, pace);
+            pace_left = if random.below(8) < style.steady { random.from(1, 6) } else { 1 };
+        }
+        let mark = |random: &mut Random, bit: u8| if random.below(16) < style.marks { bit } else { 0 };
+        let flags = phase | mark(random, 4) | mark(random, 8);
+        bytes.extend([pace as u8, (pace >> 8) as u8, flags, 0]);
+        phase_left -= 1;
+        pace_left -= 1;
+    }
+    bytes
+}
+
+fn count(random: &mut Random) -> usize {
+    let most = random.one_of(&[3, 12, 12, 40, 40, 40, 120, 120]);
+    match random.below(400) {
+        0 => 2000,
+        1 => 1999,
+        2 => random.from(1, 2000) as usize,
+        _ => random.from(1, most) as usize,
+    }
+}
+
+fn house_file(seconds: &[u8]) -> Vec<u8> {
+    let count = (seconds.len() / 4) as u16;
+    [b"WTR\0", &[1, 0][..], &count.to_le_bytes(), seconds].concat()
+}
+
+/// A house file with one thing wrong, or more.
+fn damage_trace(random: &mut Random, trace: &mut Vec<u8>) {
+    let second = 8 + 4 * random.below((trace.len() as u64 - 8) / 4) as usize;
+    let mut set = |at: usize, bytes: [u8; 2]| trace[at..at + 2].copy_from_slice(&bytes);
+    match random.below(14) {
+        0 => trace.truncate(random.below(9) as usize),
+        1 => trace[random.below(6) as usize] ^= 1 << random.below(8),
+        2 => set(4, random.one_of(&[[0, 0], [2, 0], [1, 1], [0, 1]])),
+        3 => set(6, random.one_of(&[[0, 0], [0xd1, 7], [0xd0, 7], [255, 255]])),
+        4 => trace[6] = trace[6].wrapping_add(1),
+        5 => trace.truncate(trace.len() - 1 - random.below(4) as usize),
+        6 => {
+            let longer = random.from(1, 5) as usize;
+            trace.extend(random.bytes(longer));
+        }
+        7 | 8 => set(second, random.one_of(&[[0xd1, 7], [0xd0, 7], [0, 8], [255, 255]])),
+        9 | 10 => trace[second + 2] |= 16 << random.below(4),
+        11 | 12 => trace[second + 3] = 1 << random.below(8),
+        _ => {
+            let at = random.below(trace.len() as u64) as usize;
+            trace[at] = random.word() as u8;
+        }
+    }
+}
+
+/// A start and a buffer with the exact room, a little more, or too little; starts past the buffer, and so far that no sum holds them.
+fn room(random: &mut Random, seconds: usize) -> (usize, usize) {
+    let start = random.one_of(&[0, 0, 1, 2, 7, 1000]);
+    let exact = start + 2 * seconds;
+    match random.below(16) {
+        0 => (start, exact.saturating_sub(1)),
+        1 => (start, random.below(exact as u64 + 1) as usize),
+        2 => (random.one_of(&[exact, exact + 1, usize::MAX, usize::MAX - 2 * seconds + 1]), exact),
+        3..=5 => (start, exact),
+        6 => (start, exact + 1),
+        _ => (start, exact + random.below(20) as usize),
+    }
+}
+
+/// The random case of a seed.
+pub fn case(seed: u64) -> Case {
+    let mut random = Random::new(seed);
+    let random = &mut random;
+    let (mut vehicle, close) = if random.once_in(10) {
+        let (vehicle, speed) = close_vehicle(random);
+        (vehicle, Some(speed))
+    } else {
+        (vehicle(random), None)
+    };
+    let mut preferred = shift_tenths(&speeds(&plain_vehicle(&vehicle)));
+    if random.once_in(4) {
+        preferred.truncate(4);
+    }
+    let style = Style { preferred, steady: random.below(9), marks: random.one_of(&[0, 0, 2, 8]) };
+    let count = count(random);
+    let mut seconds = seconds(random, &style, count);
+    if let Some(speed) = close {
+        let at = 4 * random.below(count as u64) as usize;
+        seconds[at..at + 2].copy_from_slice(&(speed as u16).to_le_bytes());
+    }
+    let mut trace = house_file(&seconds);
+    if random.once_in(8) {
+        damage_trace(random, &mut trace);
+    }
+    if random.once_in(8) {
+        damage_vehicle(random, &mut vehicle);
+    }
+    let (start, length) = room(random, count);
+    Case { trace, vehicle, buffer: random.bytes(length), start }
+}
+
+/// A random pair of traces, often of the same count, and the switch.
+pub fn pair(seed: u64) -> (Vec<u8>, Vec<u8>, bool) {
+    let mut random = Random::new(seed);
+    let random = &mut random;
+    let style = Style { preferred: Vec::new(), steady: 4, marks: 2 };
+    let first = count(random);
+    let second = if random.once_in(4) { count(random) } else { first };
+    let [mut normal, mut reduced] = [first, second].map(|count| house_file(&seconds(random, &style, count)));
+    if random.once_in(4) {
+        damage_trace(random, &mut normal);
+    }
+    if random.once_in(4) {
+        damage_trace(random, &mut reduced);
+    }
+    (normal, reduced, random.once_in(2))
+}

@@ -1,0 +1,48 @@
+//! Holds the proved core against stored cases and against the second implementation: what both tests need. A sheet has its own module.
+
+pub mod gear;
+pub mod random;
+
+/// An outcome as four numbers: 0 or the refusal's number, and its place.
+pub type Told = [u32; 4];
+
+/// The core's answer as four numbers.
+pub fn core_told(answer: Result<(), ylhovesko::Refusal>) -> Told {
+    answer.map_or_else(|r| [r.number, r.at, r.within, r.side], |()| [0; 4])
+}
+
+/// The second implementation's answer as four numbers.
+pub fn plain_told(answer: Result<(), plain::Refusal>) -> Told {
+    answer.map_or_else(|r| [r.number, r.at, r.within, r.side], |()| [0; 4])
+}
+
+/// How many random cases a test runs: the environment variable's number, or else `usual`.
+///
+/// ```
+/// assert_eq!(compare::cases("YLHOVESKO_NO_SUCH_CASES", 7), 7);
+/// ```
+pub fn cases(variable: &str, usual: u64) -> u64 {
+    match std::env::var(variable) {
+        Ok(text) => text.parse().unwrap_or_else(|_| panic!("{variable} is no number: {text}")),
+        Err(_) => usual,
+    }
+}
+
+/// Bytes as two hexadecimal digits each, as the stored cases have them.
+pub fn hex(bytes: &[u8]) -> String {
+    bytes.iter().map(|byte| format!("{byte:02x}")).collect()
+}
+
+/// The bytes of [`hex`]; "-" has none.
+///
+/// ```
+/// assert_eq!(compare::unhex("00ff"), [0, 255]);
+/// assert_eq!(compare::unhex("-"), []);
+/// ```
+pub fn unhex(text: &str) -> Vec<u8> {
+    if text == "-" {
+        return Vec::new();
+    }
+    assert!(text.len().is_multiple_of(2), "half a byte: {text}");
+    (0..text.len()).step_by(2).map(|at| u8::from_str_radix(&text[at..at + 2], 16).unwrap()).collect()
+}
