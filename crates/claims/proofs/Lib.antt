@@ -1,3 +1,6 @@
 pub mod Coincide
 pub mod Unique
 pub mod Table
+pub mod Accepted
+pub mod Stages
+pub mod Contained

@@ -56,7 +56,7 @@ module _ {triple : Triple} {p : Part} {sides : Sides} (r : PartRanges triple p s
       let t = r .triple-ranges in
       record { co2-reading = b .co2; co-reading = b .co; hc-reading = b .hc; wc-most = t .wc-most; wh-most = t .wh-most }
 
-  volume-ranges : VolumeRanges (p .pump) (p .revolutions) (p .barometer) (p .depression) (p .temperature)
+  pub volume-ranges : VolumeRanges (p .pump) (p .revolutions) (p .barometer) (p .depression) (p .temperature)
   volume-ranges =
       let f = r .ranged in
       record { swept = f .pumped; low = f .barometer .0; high = f .barometer .1; inlet = f .depression; cold = f .temperature .0; hot = f .temperature .1 }

@@ -1,0 +1,146 @@
+-- One law a stage: where the exact values of what it is given are between their ends, its own exact value is between its ends. Assumes nothing.
+use mathlib.Core.Path.{_≡_, refl, ap}
+use Prim.Native.Nat.{ℕ, _+_, _-_, _*_, _≤_, _<_}
+use native.Mathlib.Omega.{arith}
+use lib.IntN.{ℤ, pos, negsuc, _+ℤ_, _-ℤ_, _*ℤ_}
+use lib.Signed.{_≤ℤ_}
+use Rattle.arith.specs.declared.Ends.{Ends}
+use Rattle.arith.specs.Stages.{exactly, dividedBy}
+use Rattle.arith.specs.Fraction.{Fraction, whole, _+ᶠ_, _-ᶠ_, _*ᶠ_, _/ᶠ_, Between}
+use Rattle.arith.proofs.Parts.{up, zs, add-parts, sub-parts, mul-parts}
+use Rattle.arith.proofs.Ring.{one-mul, mul-one, mul-pos, products}
+use Rattle.arith.proofs.Enclosure.{exactly-holds, sum-holds, difference-holds, scaled-holds, product-holds, divided-holds, same-value}
+use Rattle.reading.specs.declared.Message.{Message}
+use Rattle.reading.specs.declared.Reading.{Reading}
+use Rattle.reading.specs.declared.Reading.the-variants.{Units, Unusable}
+use Rattle.reading.specs.Units.{unitsOf}
+use Rattle.reading.proofs.Usable.{usable}
+use Rattle.stage.specs.declared.Weights.{Weights}
+use Rattle.stage.specs.Combination.{combinationOf}
+use Rattle.stage.specs.Part.{gtr, kelvinOf, volumeOf, concentrationOf, gasVolumeOf, massOf, vapourOf, dryOf, khOf, noxMassOf, rateOf}
+use Rattle.stage.specs.Test.{weightedOf, fuelOf}
+use Rattle.stage.specs.Ranges.{VolumeRanges, KhRanges}
+use Rattle.stage.proofs.Sizes.{kelvin-least, vapour-most, divisor-least}
+use Rattle.bag.specs.declared.Part.{Part}
+use Rattle.part.specs.Part.{endsOf, volumeIn}
+use Rattle.claims.specs.Exact.{count, decimal, units, exactVolume, exactH, exactKh}
+
+-- ---- readings
+pub reading-holds : (message : Message) → Between (endsOf (unitsOf message)) (units message)
+unfolding exactly
+reading-holds message = go (unitsOf message) refl
+  where
+    go : (r : Reading) → unitsOf message ≡ r → Between (endsOf r) (whole (endsOf r .lower))
+    go (Units ends) e = let u = usable message e in rw (u .exact) (exactly-holds (pos (u .units)))
+    go Unusable e = exactly-holds (pos 0)
+
+-- ---- fractions of naturals
+abbrev ratio : ℕ → ℕ → Fraction
+ratio n d = decimal (pos n) d
+
+same-parts : {n m d e : ℤ} → n ≡ m → d ≡ e → _≡_ {A = Fraction} (record { num = n; den = d }) (record { num = m; den = e })
+same-parts p q = cc
+
+-- ---- volume
+natural : (z : ℤ) → pos 0 ≤ℤ z → z ≡ pos (up z)
+natural (pos n) h = refl
+natural (negsuc n) h = absurd (h .le)
+
+-- s the pressure, k the temperature above absolute zero in 0.05 K
+volume-at :
+    (pump revolutions s k : ℕ) (d : ℤ) (x y : Fraction) → 0 < k → d ≡ pos (101325 * k) → x ≡ count s → y ≡ decimal (pos (50 * k)) 1000 →
+    Between (dividedBy (exactly (pos (pump * revolutions * s * 5863))) d) (decimal (pos 29315) 100 *ᶠ count pump *ᶠ count revolutions *ᶠ x /ᶠ (count 101325 *ᶠ y))
+volume-at pump revolutions s k d x y h e f g =
+    rw (e, f, g) (same-value (divided-holds (exactly-holds (pos (pump * revolutions * s * 5863))) (pos (101325 * k)) (omega zs)) _ (omega zs) (omega zs))
+
+pub volume-holds : (p : Part) → VolumeRanges (p .pump) (p .revolutions) (p .barometer) (p .depression) (p .temperature) → Between (volumeIn p) (exactVolume p)
+unfolding volumeOf exactVolume
+volume-holds p r =
+    let t = p .temperature in
+    let k = up (kelvinOf gtr t) in
+    let warm = kelvin-least r in
+    let same = natural (kelvinOf gtr t) (omega (zs, warm)) in
+    let pressure : pos (1 * p .barometer) -ℤ pos (1 * p .depression) ≡ pos (p .barometer - p .depression) =
+    omega (zs, r .low, r .inlet, sub-parts (pos (1 * p .barometer)) (pos (1 * p .depression))) in
+    let temperature : pos 100 *ℤ t +ℤ pos 273150 ≡ pos (50 * k) =
+    omega (zs, mul-parts (pos 2) t, add-parts (pos 2 *ℤ t) (pos 5463), mul-parts (pos 100) t, add-parts (pos 100 *ℤ t) (pos 273150)) in
+    volume-at (p .pump) (p .revolutions) (p .barometer - p .depression) k _ _ _ (omega (zs, warm))
+    (ap (λ (z : ℤ). pos 101325 *ℤ z) same) (ap whole pressure) (ap (λ (z : ℤ). decimal z 1000) temperature)
+
+-- ---- three numbers, each with its own factor
+pub combination-holds :
+    {a b c : Ends} {x y z : Fraction} (j k l : ℕ) → Between a x → Between b y → Between c z → Between (combinationOf j a k b l c) (count j *ᶠ x +ᶠ count k *ᶠ y +ᶠ count l *ᶠ z)
+unfolding combinationOf
+combination-holds j k l a b c = sum-holds (sum-holds (scaled-holds a (pos j)) (scaled-holds b (pos k))) (scaled-holds c (pos l))
+
+-- ---- concentration and mass
+pub concentration-holds :
+    {bag air g : Ends} {x y z : Fraction} (q : ℕ) → 0 < q → Between bag x → Between air y → Between g z → Between (concentrationOf bag air g q) (count 16 *ᶠ (count q *ᶠ x -ᶠ y *ᶠ (count q -ᶠ z)) /ᶠ count q)
+unfolding concentrationOf
+concentration-holds q h bag air g =
+    divided-holds (scaled-holds (difference-holds (scaled-holds bag (pos q)) (product-holds air (difference-holds (exactly-holds (pos q)) g))) (pos 16)) (pos q) (omega zs)
+
+pub gas-volume-holds : {volume concentration : Ends} {v c : Fraction} → Between volume v → Between concentration c → Between (gasVolumeOf volume concentration) (v *ᶠ c /ᶠ count 4096000)
+unfolding gasVolumeOf
+gas-volume-holds v c = divided-holds (product-holds v c) (pos 4096000) (omega zs)
+
+pub mass-holds : {gas : Ends} {v : Fraction} (density : ℕ) → Between gas v → Between (massOf gas density) (count density *ᶠ v /ᶠ count 1000000)
+unfolding massOf
+mass-holds density v = divided-holds (scaled-holds v (pos density)) (pos 1000000) (omega zs)
+
+-- ---- humidity: v the vapour's pressure, b the dry air's, in mPa
+h-value : (p : Part) → KhRanges (p .humidity) (p .saturation) (p .barometer) → exactH p ≡ ratio (6211000 * vapourOf (p .humidity) (p .saturation)) (10000 * dryOf (p .humidity) (p .saturation) (p .barometer))
+unfolding exactH
+h-value p r =
+    let v = p .saturation * p .humidity in
+    let room = vapour-most (r .ranges) in
+    let dry : pos (1000 * p .barometer) -ℤ pos (1 * (v * 1)) ≡ pos (dryOf (p .humidity) (p .saturation) (p .barometer)) =
+    omega (zs, r .ranges .low, sub-parts (pos (1000 * p .barometer)) (pos (1 * (v * 1)))) in
+    same-parts (omega zs) (ap (λ (z : ℤ). pos 10000 *ℤ z) dry)
+
+kh-divisor : (v b : ℕ) → 20434190 * v ≤ 1352030 * b → count 1 -ᶠ decimal (pos 329) 10000 *ᶠ (ratio (6211000 * v) (10000 * b) -ᶠ decimal (pos 107) 10) ≡ ratio (1000 * (1352030 * b - 20434190 * v)) (1000000000 * b)
+kh-divisor v b h =
+    let a = pos (10 * (6211000 * v)) in
+    let c = pos (10000 * b * 107) in
+    let d = pos (10000 * (10 * (10000 * b)) * 1) in
+    same-parts (omega (zs, sub-parts a c, mul-parts (pos 329) (a -ℤ c), mul-parts (pos 1) (pos 329 *ℤ (a -ℤ c)), sub-parts d (pos 1 *ℤ (pos 329 *ℤ (a -ℤ c))))) (omega zs)
+
+kh-at : (b n : ℕ) (x : Fraction) → 0 < b → 0 < n → x ≡ ratio (1000 * n) (1000000000 * b) → Between (dividedBy (exactly (pos (65536000000 * b))) (pos n)) (count 65536 *ᶠ (count 1 /ᶠ x))
+kh-at b n x h k e = rw e (same-value (divided-holds (exactly-holds (pos (65536000000 * b))) (pos n) (omega zs)) _ (omega zs) (omega zs))
+
+pub kh-holds : (p : Part) → KhRanges (p .humidity) (p .saturation) (p .barometer) → Between (khOf (p .humidity) (p .saturation) (p .barometer)) (count 65536 *ᶠ exactKh p)
+unfolding khOf exactKh
+kh-holds p r =
+    let v = vapourOf (p .humidity) (p .saturation) in
+    let b = dryOf (p .humidity) (p .saturation) (p .barometer) in
+    let least = divisor-least r in
+    let room = vapour-most (r .ranges) in
+    let low = r .ranges .low in
+    kh-at b (1352030 * b - 20434190 * v) (count 1 -ᶠ decimal (pos 329) 10000 *ᶠ (exactH p -ᶠ decimal (pos 107) 10)) (omega arith) (omega arith)
+    (rw (h-value p r) (kh-divisor v b (omega arith)))
+
+-- Kh's ends are in 1/65,536
+pub nox-mass-holds : {mass kh : Ends} {m : Fraction} (k : Fraction) → Between mass m → Between kh (count 65536 *ᶠ k) → Between (noxMassOf mass kh) (m *ᶠ k)
+unfolding noxMassOf
+nox-mass-holds {m = m} k h i =
+    same-value (divided-holds (product-holds h i) (pos 65536) (omega zs)) (m *ᶠ k)
+    (mul-pos (h .positive) (rw one-mul at (i .positive)))
+    (simp (mul-one, one-mul, products))
+
+-- ---- rate
+pub rate-holds : {mass : Ends} {m : Fraction} (distance : ℕ) → 0 < distance → Between mass m → Between (rateOf mass distance) (count 1000 *ᶠ m /ᶠ count distance)
+unfolding rateOf
+rate-holds distance h m = divided-holds (scaled-holds m (pos 1000)) (pos distance) (omega zs)
+
+-- ---- the whole test
+pub weighted-holds :
+    {first second third : Ends} {x y z : Fraction} (w : Weights) → Between first x → Between second y → Between third z →
+    Between (weightedOf w first second third) ((count (w .first) *ᶠ x +ᶠ count (w .second) *ᶠ y +ᶠ count (w .third) *ᶠ z) /ᶠ count 100)
+unfolding weightedOf
+weighted-holds w x y z = divided-holds (combination-holds (w .first) (w .second) (w .third) x y z) (pos 100) (omega zs)
+
+pub fuel-holds :
+    {hc co co2 : Ends} {x y z : Fraction} (k f1 f2 f3 density : ℕ) → 0 < density → Between hc x → Between co y → Between co2 z →
+    Between (fuelOf k f1 f2 f3 density hc co co2) (count k *ᶠ (count f1 *ᶠ x +ᶠ count f2 *ᶠ y +ᶠ count f3 *ᶠ z) /ᶠ count (10000 * density))
+unfolding fuelOf
+fuel-holds k f1 f2 f3 density h x y z = divided-holds (scaled-holds (combination-holds f1 f2 f3 x y z) (pos k)) (pos (10000 * density)) (omega zs)
