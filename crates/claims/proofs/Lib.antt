@@ -4,3 +4,4 @@ pub mod Table
 pub mod Accepted
 pub mod Stages
 pub mod Contained
+pub mod Verdicts

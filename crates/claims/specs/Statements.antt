@@ -1,11 +1,35 @@
 -- What is promised of a test that is answered with a result (demand 3), as records that the theorems of proofs/ give.
-use Rattle.arith.specs.Fraction.{Between}
+use mathlib.Core.Path.{_≡_}
+use Prim.Native.Nat.{ℕ}
+use lib.IntN.{pos, _*ℤ_}
+use lib.Signed.{_≤ℤ_, _<ℤ_}
+use Rattle.arith.specs.declared.Ends.{Ends}
+use Rattle.arith.specs.Fraction.{Fraction, Between}
 use Rattle.bag.specs.declared.BagSheet.{BagSheet}
+use Rattle.stage.specs.declared.Verdict.{Verdict}
+use Rattle.stage.specs.declared.Verdict.the-variants.{Pass, Fail, Undecided}
 use Rattle.emission.specs.declared.TestResult.{TestResult}
-use Rattle.claims.specs.Gas.{Gas, endsAt}
+use Rattle.claims.specs.Gas.{Gas, endsAt, limitAt, verdictAt}
 use Rattle.claims.specs.Exact.{exactWeighted, exactFuel}
 
 -- each exact figure is between its two ends
 pub record Contained (s : BagSheet) (r : TestResult) : Type 0 where
   pub weighted : (gas : Gas) → Between (endsAt gas (r .weighted)) (exactWeighted gas s)
   pub fuel : Between (r .fuel) (exactFuel s)
+
+-- ---- verdicts. A fraction against a whole number, said without a division
+abbrev pub AtMost : Fraction → ℕ → Type 0
+AtMost q n = q .num ≤ℤ (q .den *ℤ pos n)
+
+abbrev pub Above : Fraction → ℕ → Type 0
+Above q n = (q .den *ℤ pos n) <ℤ q .num
+
+-- pass and fail are said only of what is so of the exact figure; undecided exactly where the limit is at or above the lower end and below the upper
+pub record Justified (e : Ends) (q : Fraction) (limit : ℕ) (v : Verdict) : Type 0 where
+  pub pass : v ≡ Pass → AtMost q limit
+  pub fail : v ≡ Fail → Above q limit
+  pub undecided : v ≡ Undecided → (e .lower ≤ℤ pos limit) × (pos limit <ℤ e .upper)
+  pub only : e .lower ≤ℤ pos limit → pos limit <ℤ e .upper → v ≡ Undecided
+
+abbrev pub JustifiedIn : BagSheet → TestResult → Gas → Type 0
+JustifiedIn s r gas = Justified (endsAt gas (r .weighted)) (exactWeighted gas s) (limitAt gas (s .limits)) (verdictAt gas (r .verdicts))

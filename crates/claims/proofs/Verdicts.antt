@@ -1,0 +1,70 @@
+-- Demand 3, verdicts: pass is said only where the exact figure is at or below the limit, fail only where it is above, and undecided exactly where
+-- the limit is at or above the lower end and below the upper. Assumes nothing.
+use mathlib.Core.Path.{_≡_, refl}
+use mathlib.Core.Logic.{⊎-elim}
+use mathlib.Core.Bool.{Bool, true, false, cond}
+use Prim.Native.Nat.{ℕ}
+use native.Mathlib.Omega.{arith}
+use lib.IntN.{ℤ, pos}
+use lib.Signed.{_≤ℤ_, _<ℤ_, leZ, ltZ, clashℤ, <ℤ-≤ℤ-trans}
+use Rattle.arith.specs.declared.Ends.{Ends}
+use Rattle.arith.specs.Fraction.{Fraction, Between}
+use Rattle.arith.proofs.Ring.{mul-mono, mul-mono-<, ≤-trans, <-≤, ≤-or-<}
+use Rattle.arith.proofs.Machine.{lt-true, lt-false, le-true}
+use Rattle.bag.specs.declared.BagSheet.{BagSheet}
+use Rattle.stage.specs.declared.Verdict.the-variants.{Pass, Fail, Undecided}
+use Rattle.stage.specs.Test.{verdictOf}
+use Rattle.emission.specs.declared.TestResult.{TestResult}
+use Rattle.emission.specs.declared.Answer.the-variants.{Result}
+use Rattle.emission.specs.Test.{readingsIn, partsIn, verdictsOf, resultOf, testAnswer}
+use Rattle.claims.specs.Gas.{Gas, HC, CO, NOx, CO2, endsAt, limitAt, verdictAt}
+use Rattle.claims.specs.Statements.{Justified, JustifiedIn}
+use Rattle.claims.proofs.Accepted.{accepted-result}
+use Rattle.claims.proofs.Contained.{contained}
+
+-- a test that failed, strictly
+above : {a b : ℤ} → leZ a b ≡ false → b <ℤ a
+above {a} {b} e = ⊎-elim (λ p. absurd (rw e at (p .le))) (λ p. p) (≤-or-< a b)
+
+-- one verdict is not another: `cc` tells them apart by 0 ≡ 1
+unlike : {A : Type 0} → _≡_ {A = ℕ} 0 1 → A
+unlike e = absurd (let none : ⊥ = omega arith in none)
+
+module _ {e : Ends} {q : Fraction} (h : Between e q) (limit : ℕ) where
+  pub justified : Justified e q limit (verdictOf e limit)
+  unfolding verdictOf
+  justified = go (leZ (e .upper) (pos limit)) (ltZ (pos limit) (e .lower)) refl refl
+    where
+      go : (t u : Bool) → leZ (e .upper) (pos limit) ≡ t → ltZ (pos limit) (e .lower) ≡ u → Justified e q limit (cond t Pass (cond u Fail Undecided))
+      go true u x y =
+          record {
+            pass = λ v. ≤-trans (h .below) (mul-mono (q .den) (<-≤ (h .positive)) (le-true x));
+            fail = λ v. unlike (cc);
+            undecided = λ v. unlike (cc);
+            only = λ l g. clashℤ g (le-true x);
+          }
+      go false true x y =
+          record {
+            pass = λ v. unlike (cc);
+            fail = λ v. <ℤ-≤ℤ-trans (mul-mono-< (q .den) (h .positive) (lt-true y)) (h .above);
+            undecided = λ v. unlike (cc);
+            only = λ l g. clashℤ (lt-true y) l;
+          }
+      go false false x y =
+          record {
+            pass = λ v. unlike (cc);
+            fail = λ v. unlike (cc);
+            undecided = λ v. (lt-false y, above x);
+            only = λ l g. refl;
+          }
+
+-- what the definition says of four gases, it says of each
+verdict-at : (gas : Gas) (s : BagSheet) (r : TestResult) → r ≡ resultOf s (partsIn s (readingsIn s)) → verdictAt gas (r .verdicts) ≡ verdictOf (endsAt gas (r .weighted)) (limitAt gas (s .limits))
+unfolding resultOf verdictsOf
+verdict-at HC s r e = rw e
+verdict-at CO s r e = rw e
+verdict-at NOx s r e = rw e
+verdict-at CO2 s r e = rw e
+
+pub verdicts : (s : BagSheet) (r : TestResult) → testAnswer s ≡ Result r → (gas : Gas) → JustifiedIn s r gas
+verdicts s r e gas = rw (verdict-at gas s r (accepted-result e .result)) (justified (contained s r e .weighted gas) (limitAt gas (s .limits)))
