@@ -5,3 +5,4 @@ pub mod Accepted
 pub mod Stages
 pub mod Contained
 pub mod Verdicts
+pub mod Figures

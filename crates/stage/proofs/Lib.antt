@@ -1,3 +1,2 @@
 pub mod UpTo
 pub mod Sizes
-mod Figures
