@@ -22,7 +22,7 @@ scan-gt good from k (suc count) h =
     cond-lt (good from) k (scan good (λ k. k) (λ k. k) (from + 1) count) from (scan-gt good (from + 1) k count (omega arith)) h
 
 module _ (trace : List ℕ) (n : ℕ) where
-  end-gt : (row : List ℕ) (start k : ℕ) → k ≤ start → k < endAt trace row n start
+  pub end-gt : (row : List ℕ) (start k : ℕ) → k ≤ start → k < endAt trace row n start
   end-gt row start k h = scan-gt (goesOn trace row (gearAt row start)) (start + 1) k (n - (start + 1)) (omega arith)
 
   -- each turn goes on

@@ -55,7 +55,7 @@ module _ {A : Type 0} (good : ℕ → Bool) (out done : ℕ → A) where
     first-good true rest k e = (refl, e)
     first-good false rest k e = absurd (never k e)
 
-    scan-all : (k n : ℕ) → scan good out done k n ≡ a → (j : ℕ) → j < n → good (k + j) ≡ true
+    pub scan-all : (k n : ℕ) → scan good out done k n ≡ a → (j : ℕ) → j < n → good (k + j) ≡ true
     scan-all k zero e j l = absurd (omega arith)
     scan-all k (suc n) e zero l =
         let same : k + 0 ≡ k = omega arith in
