@@ -6,3 +6,5 @@ pub mod Stages
 pub mod Contained
 pub mod Verdicts
 pub mod Figures
+pub mod Stores
+pub mod Rows

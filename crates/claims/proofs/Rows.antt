@@ -1,0 +1,131 @@
+-- What an accepted gear sheet leaves in the buffer: two bytes a second from the start on, every other byte as it was, and the clutch of each second
+-- as its phase and speed ask. A refusal leaves the whole buffer. Assumes nothing.
+use mathlib.Core.Path.{_≡_, refl, sym, ap, _∙_}
+use mathlib.Core.Bool.{Bool, true, false, cond}
+use mathlib.Core.List.{List, _++_}
+use Prim.Native.Nat.{ℕ, _+_, _*_, _≤_, _<_}
+use native.Mathlib.Omega.{arith}
+use lib.ListN.{length, take, drop, length-append, length-drop}
+use lib.Seq.{length-take-le, take-at, drop-at, drop-drop}
+use lib.Dec.{ltb}
+use Rattle.refusal.specs.declared.Judged.{Judged}
+use Rattle.refusal.specs.declared.Judged.the-variants.{Accepted, Refused}
+use Rattle.refusal.specs.declared.Refusal.{Refusal}
+use Rattle.refusal.proofs.Judging.{then-holds}
+use Rattle.trace.specs.House.{countOf, flagsAt, speedAt, stop}
+use Rattle.vehicle.specs.declared.VehicleSheet.{VehicleSheet}
+use Rattle.shift.specs.declared.Shift.{Shift}
+use Rattle.shift.specs.Speeds.{shiftOf}
+use Rattle.walk.proofs.Walk.{pairs-length}
+use Rattle.row.specs.Row.{clutchAt}
+use Rattle.phase.specs.Phase.{firstGear, firstRow, clutchOf, clutchStep, clutched}
+use Rattle.runs.specs.Corrected.{corrected}
+use Rattle.runs.proofs.Frame.{corrected-length}
+use Rattle.gear.specs.Own.{ownAt, judgeClose}
+use Rattle.gear.specs.Sheet.{judgeSheet, gearAnswer, ifAccepted, withRow, rowOf, gearBuffer}
+use Rattle.gear.proofs.Sheet.{Sound, sheet-sound, buffer-refused}
+use Rattle.claims.specs.Rows.{finishedRow}
+use Rattle.claims.proofs.Stores.{Storing, stores-length, stored}
+
+-- ---- the row by itself
+-- the clutch is stored behind the gear of each second
+abbrev pub clutching : List ℕ → Storing (List ℕ)
+clutching trace = record {
+  bytes = λ row. row;
+  step = clutchStep trace;
+  place = λ k. 2 * k + 1;
+  new = λ row k. clutchOf (flagsAt trace k) (speedAt trace k);
+  stores = λ row k. refl;
+  apart = λ j k e. omega arith;
+}
+
+module _ (s : Shift) (trace : List ℕ) (n : ℕ) where
+  pub uncorrected-length : length (firstRow (λ k. ownAt s trace k .gear) trace n) ≡ 2 * n
+  unfolding firstRow
+  uncorrected-length = pairs-length (firstGear (λ k. ownAt s trace k .gear) trace n) (λ k. 0) n
+
+  beforeClutch : List ℕ
+  beforeClutch = corrected trace (firstRow (λ k. ownAt s trace k .gear) trace n) n
+
+  before-length : length beforeClutch ≡ 2 * n
+  unfolding beforeClutch
+  before-length = corrected-length trace (firstRow (λ k. ownAt s trace k .gear) trace n) n ∙ uncorrected-length
+
+  -- two bytes a second
+  pub row-length : length (rowOf s trace n) ≡ 2 * n
+  unfolding rowOf clutched beforeClutch
+  row-length = stores-length (clutching trace) beforeClutch n ∙ before-length
+
+  row-clutch : (k : ℕ) → k < n → clutchAt (rowOf s trace n) k ≡ clutchOf (flagsAt trace k) (speedAt trace k)
+  unfolding rowOf clutched beforeClutch
+  row-clutch k l =
+      let long : length beforeClutch ≡ 2 * n = before-length in
+      stored (clutching trace) beforeClutch n k l (omega (arith, long))
+
+bit : (b c : Bool) → cond b 1 (cond c 1 0) ≤ 1
+bit true c = omega arith
+bit false true = omega arith
+bit false false = omega arith
+
+clutch-of-bit : (flags speed : ℕ) → clutchOf flags speed ≤ 1
+unfolding clutchOf
+clutch-of-bit flags speed = bit (stop flags) (ltb speed 100)
+
+-- ---- in the buffer
+module _ (trace : List ℕ) (v : VehicleSheet) (buffer : List ℕ) (start : ℕ) where
+  -- "buffers stay as lent"
+  pub refused-kept : {refusal : Refusal} → gearAnswer trace v (length buffer) start ≡ Refused refusal → gearBuffer trace v buffer start ≡ buffer
+  refused-kept e = sym (buffer-refused trace v buffer start e)
+
+  module _ (accepted : gearAnswer trace v (length buffer) start ≡ Accepted) where
+    pub accepted-sound : Sound trace v (length buffer) start
+    unfolding gearAnswer
+    accepted-sound =
+        sheet-sound trace v (length buffer) start
+        (then-holds (judgeSheet trace v (length buffer) start) (judgeClose (shiftOf v) trace 0 (countOf trace)) accepted .0)
+
+    written : gearBuffer trace v buffer start ≡ take start buffer ++ withRow (shiftOf v) trace (countOf trace) (drop start buffer)
+    unfolding gearBuffer
+    written =
+        ap (λ (j : Judged). ifAccepted j (take start buffer ++ withRow (shiftOf v) trace (countOf trace) (drop start buffer)) buffer) accepted
+
+    front-length : length (take start buffer) ≡ start
+    front-length = length-take-le start buffer (accepted-sound .from)
+
+    from-start : drop start (gearBuffer trace v buffer start) ≡ withRow (shiftOf v) trace (countOf trace) (drop start buffer)
+    from-start = ap (drop start) written ∙ drop-at (take start buffer) _ start front-length
+
+    -- the row is that of the sheet
+    pub row-held : finishedRow trace v buffer start ≡ rowOf (shiftOf v) trace (countOf trace)
+    row-held =
+        ap (take (2 * countOf trace)) from-start
+        ∙ take-at (rowOf (shiftOf v) trace (countOf trace)) _ (2 * countOf trace) (row-length (shiftOf v) trace (countOf trace))
+
+    -- every byte before the start and behind the row
+    pub outside-kept : (take start (gearBuffer trace v buffer start) ≡ take start buffer)
+        × (drop (start + 2 * countOf trace) (gearBuffer trace v buffer start) ≡ drop (start + 2 * countOf trace) buffer)
+    outside-kept = (
+      ap (take start) written ∙ take-at (take start buffer) _ start front-length,
+      sym (drop-drop (2 * countOf trace) start (gearBuffer trace v buffer start))
+          ∙ ap (drop (2 * countOf trace)) from-start
+          ∙ drop-at (rowOf (shiftOf v) trace (countOf trace)) _ (2 * countOf trace) (row-length (shiftOf v) trace (countOf trace))
+          ∙ drop-drop (2 * countOf trace) start buffer,
+    )
+
+    -- no byte more or less
+    pub length-kept : length (gearBuffer trace v buffer start) ≡ length buffer
+    length-kept =
+        let row = rowOf (shiftOf v) trace (countOf trace) in
+        let front : length (take start buffer) ≡ start = front-length in
+        let long : length row ≡ 2 * countOf trace = row-length (shiftOf v) trace (countOf trace) in
+        let sound : Sound trace v (length buffer) start = accepted-sound in
+        ap length written ∙ simp (length-append, length-drop) (omega (arith, sound .from, sound .fits))
+
+    -- the clutch of each second, by its phase and speed
+    pub clutch-is : (k : ℕ) → k < countOf trace
+        → clutchAt (finishedRow trace v buffer start) k ≡ clutchOf (flagsAt trace k) (speedAt trace k)
+    clutch-is k l = ap (λ (row : List ℕ). clutchAt row k) row-held ∙ row-clutch (shiftOf v) trace (countOf trace) k l
+
+    -- in or out
+    pub clutch-bit : (k : ℕ) → k < countOf trace → clutchAt (finishedRow trace v buffer start) k ≤ 1
+    clutch-bit k l = omega (arith, clutch-is k l, clutch-of-bit (flagsAt trace k) (speedAt trace k))
