@@ -8,3 +8,4 @@ pub mod Verdicts
 pub mod Figures
 pub mod Stores
 pub mod Rows
+pub mod Passes
