@@ -9,3 +9,4 @@ pub mod Figures
 pub mod Stores
 pub mod Rows
 pub mod Passes
+pub mod Seconds
