@@ -10,3 +10,4 @@ pub mod Stores
 pub mod Rows
 pub mod Passes
 pub mod Seconds
+pub mod Smoothing

@@ -1,0 +1,254 @@
+-- What correction 5 gives every two neighbours, and that correction 6 keeps it, with what corrections 1 to 5 keep of every second: a run that takes the
+-- gear beside it takes one that its seconds allow, and its ends then stand beside that same gear. Assumes nothing.
+use mathlib.Core.Path.{_≡_, refl, sym, ap, subst, _∙_}
+use mathlib.Core.Bool.{Bool, true, false, not, cond, _&&_, false≢true}
+use mathlib.Core.List.{List}
+use Prim.Native.Nat.{ℕ, zero, suc, _+_, _-_, _*_, _≤_, _<_}
+use native.Mathlib.Decide.{decLt}
+use native.Mathlib.Omega.{arith}
+use borrow.Author.Tests.{leb-false, eqb-true, eqb-false, eq-eqb, not-true}
+use lib.Dec.{eqb, leb, ltb}
+use lib.ListN.{length}
+use Rattle.refusal.proofs.Ranges.{both}
+use Rattle.walk.specs.Walk.{scan}
+use Rattle.walk.proofs.Walk.{scan-all}
+use Rattle.trace.specs.House.{flagsAt, stopAt, noFirstAt}
+use Rattle.row.specs.declared.Rule.the-variants.{OneStep}
+use Rattle.row.specs.Row.{gearAt, setGear}
+use Rattle.row.specs.Corrections.{byRule, ruled, passBy}
+use Rattle.runs.specs.Runs.{goesOn, endAt, hasNoFirst, filled, takes, runJudged, rowAfter, nextAfter, smooth, smoothed}
+use Rattle.runs.proofs.Fuel.{end-gt}
+use Rattle.claims.specs.Rows.{Near}
+use Rattle.claims.proofs.Stores.{Storing, stores-length, not-stored, not-yet, stored}
+use Rattle.claims.proofs.Passes.{pass-next}
+use Rattle.claims.proofs.Seconds.{leastBy, least-range, Second}
+
+-- a row of n seconds, each with a gear that it allows, and near the one before it outside stops
+pub record Fit (trace : List ℕ) (n most : ℕ) (row : List ℕ) : Type 0 where
+  pub long : 2 * n ≤ length row
+  pub second : (k : ℕ) → k < n → Second trace n most (leastBy (flagsAt trace k)) k (gearAt row k)
+  pub near : (k : ℕ) → suc k < n → stopAt trace (suc k) ≡ false → Near (gearAt row k) (gearAt row (suc k))
+
+-- ---- correction 5
+pub pass-near : (trace row : List ℕ) (n : ℕ) → 2 * n ≤ length row → (k : ℕ) → suc k < n → stopAt trace (suc k) ≡ false
+    → Near (gearAt (passBy OneStep trace row n) k) (gearAt (passBy OneStep trace row n) (suc k))
+unfolding ruled
+pass-near trace row n room k l drive =
+    let before = gearAt (passBy OneStep trace row n) k in
+    let own = gearAt row (suc k) in
+    let new = byRule OneStep false (flagsAt trace k) (flagsAt trace (suc k)) before own in
+    let is : gearAt (passBy OneStep trace row n) (suc k) ≡ new = pass-next OneStep trace row n room k l ∙ ap (λ (b : Bool). cond b own new) drive in
+    subst (Near before) (sym is) (record { up = omega arith; down = omega arith })
+
+-- ---- the seconds of a run
+cond-false : (b x : Bool) → cond b false x ≡ true → (b ≡ false) × (x ≡ true)
+cond-false true x e = absurd (false≢true e)
+cond-false false x e = (refl, e)
+
+-- every place before the one that a search ends at is good
+scan-before : (good : ℕ → Bool) (from count k : ℕ) → from ≤ k → k < scan good (λ i. i) (λ i. i) from count → good k ≡ true
+scan-before good from zero k h l = absurd (omega arith)
+scan-before good from (suc count) k h l =
+    go (good from) refl l (decLt from k) (λ past further. scan-before good (from + 1) count k (omega arith) further)
+  where
+    rest : ℕ
+    rest = scan good (λ i. i) (λ i. i) (from + 1) count
+
+    go : (b : Bool) → good from ≡ b → k < cond b rest from → Dec (from < k) → (from < k → k < rest → good k ≡ true) → good k ≡ true
+    go true e l (yes past) later = later past l
+    go true e l (no here) later =
+        let same : k ≡ from = omega arith in
+        ap good same ∙ e
+    go false e l d later = absurd (omega arith)
+
+-- ---- a run filled with a gear
+abbrev filling : ℕ → ℕ → Storing (List ℕ)
+filling start gear = record {
+  bytes = λ row. row;
+  step = λ row k. setGear row (start + k) gear;
+  place = λ k. 2 * (start + k);
+  new = λ row k. gear;
+  stores = λ row k. refl;
+  apart = λ j k e. omega arith;
+}
+
+module _ (row : List ℕ) (start gear count : ℕ) where
+  fill-length : length (filled row start gear count) ≡ length row
+  fill-length = stores-length (filling start gear) row count
+
+  fill-in : (k : ℕ) → start ≤ k → k < start + count → 2 * k < length row → gearAt (filled row start gear count) k ≡ gear
+  fill-in k h l room =
+      let same : k ≡ start + (k - start) = omega arith in
+      ap (gearAt (filled row start gear count)) same
+      ∙ stored (filling start gear) row count (k - start) (omega arith) (omega arith)
+
+  fill-before : (k : ℕ) → k < start → gearAt (filled row start gear count) k ≡ gearAt row k
+  fill-before k l = not-stored (filling start gear) (2 * k) (λ j (e : 2 * k ≡ 2 * (start + j)). omega arith) row count
+
+  fill-behind : (k : ℕ) → start + count ≤ k → gearAt (filled row start gear count) k ≡ gearAt row k
+  fill-behind k l =
+      let same : k ≡ start + (k - start) = omega arith in
+      ap (gearAt (filled row start gear count)) same
+      ∙ not-yet (filling start gear) row count (k - start) (omega arith)
+      ∙ ap (gearAt row) (sym same)
+
+-- what a run has that takes the gear beside it
+record Taken (trace row : List ℕ) (n start end : ℕ) : Type 0 where
+  inside : (0 < start) × (end < n)
+  beside : stopAt trace end ≡ false
+  same : gearAt row (start - 1) ≡ gearAt row end
+  allowed : gearAt row end ≡ 1 → (j : ℕ) → j < end - start → noFirstAt trace (start + j) ≡ false
+
+taken : (trace row : List ℕ) (n start end : ℕ) → takes trace row n start end ≡ true → Taken trace row n start end
+unfolding takes
+taken trace row n start end e =
+    let calm = not (stopAt trace (start - 1)) in
+    let free = not (stopAt trace end) in
+    let short = leb (end - start) 4 in
+    let equal = eqb (gearAt row (start - 1)) (gearAt row end) in
+    let none = eqb (gearAt row end) 1 && hasNoFirst trace start (end - start) in
+    let past = cond-false (eqb start 0) _ e in
+    let more = cond-false (leb n end) (calm && free && short && equal && not none) (past .1) in
+    let five = both (calm && free && short && equal) (not none) (more .1) in
+    let four = both (calm && free && short) equal (five .0) in
+    let three = both (calm && free) short (four .0) in
+    let some : start ≡ 0 → ⊥ = eqb-false start 0 (past .0) in
+    let room : end < n = leb-false n end (more .0) in
+    record {
+      inside = (omega arith, room);
+      beside = not-true (stopAt trace end) (both calm free (three .0) .1);
+      same = eqb-true (gearAt row (start - 1)) (gearAt row end) (four .1);
+      allowed = λ one j l.
+          not-true (noFirstAt trace (start + j))
+          (scan-all (λ k. not (noFirstAt trace k)) (λ k. true) (λ k. false) false (λ k f. false≢true (sym f)) start (end - start)
+          (unmarked (eqb (gearAt row end) 1) (hasNoFirst trace start (end - start)) (eq-eqb (gearAt row end) 1 one) (not-true none (five .1))) j l);
+    }
+  where
+    unmarked : (a b : Bool) → a ≡ true → a && b ≡ false → b ≡ false
+    unmarked true b t f = f
+    unmarked false b t f = absurd (false≢true t)
+
+-- ---- correction 6
+-- a run that took the gear beside it
+module _ (trace row : List ℕ) (n most start end : ℕ) (fit : Fit trace n most row) (some : start < end)
+    (drives : (k : ℕ) → start ≤ k → k < end → stopAt trace k ≡ false) (t : Taken trace row n start end) where
+  after : List ℕ
+  after = filled row start (gearAt row end) (end - start)
+
+  in-run : (k : ℕ) → start ≤ k → k < end → gearAt after k ≡ gearAt row end
+  unfolding after
+  in-run k h l =
+      let room : end < n = t .inside .1 in
+      fill-in row start (gearAt row end) (end - start) k h (omega arith) (omega (arith, fit .long))
+
+  before-run : (k : ℕ) → k < start → gearAt after k ≡ gearAt row k
+  unfolding after
+  before-run k l = fill-before row start (gearAt row end) (end - start) k l
+
+  behind-run : (k : ℕ) → end ≤ k → gearAt after k ≡ gearAt row k
+  unfolding after
+  behind-run k l = fill-behind row start (gearAt row end) (end - start) k (omega arith)
+
+  -- the run and the seconds on its two sides
+  around-run : (k : ℕ) → start ≤ suc k → k ≤ end → Dec (k < start) → Dec (k < end) → gearAt after k ≡ gearAt row end
+  around-run k h l (yes left) d =
+      let last : k ≡ start - 1 = omega arith in
+      before-run k left ∙ ap (gearAt row) last ∙ t .same
+  around-run k h l (no right) (yes below) = in-run k (omega arith) below
+  around-run k h l (no right) (no above) =
+      let first : k ≡ end = omega arith in
+      behind-run k (omega arith) ∙ ap (gearAt row) first
+
+  allowed-low : (k : ℕ) → start ≤ k → k < end → 1 ≤ gearAt row end → (b : Bool) → noFirstAt trace k ≡ b → cond b 2 1 ≤ gearAt row end
+  allowed-low k h l lower false e = lower
+  allowed-low k h l lower true e = go (decLt 1 (gearAt row end))
+    where
+      go : Dec (1 < gearAt row end) → 2 ≤ gearAt row end
+      go (yes more) = omega arith
+      go (no less) =
+          let one : gearAt row end ≡ 1 = omega arith in
+          let same : start + (k - start) ≡ k = omega arith in
+          absurd (false≢true (sym (t .allowed one (k - start) (omega arith)) ∙ ap (noFirstAt trace) same ∙ e))
+
+  run-second : (k : ℕ) → start ≤ k → k < end → Second trace n most (leastBy (flagsAt trace k)) k (gearAt row end)
+  run-second k h l =
+      let there = fit .second end (t .inside .1) .drives (t .beside) in
+      let least = least-range (flagsAt trace end) in
+      record {
+        drives = λ e. record { low = allowed-low k h l (omega arith) (noFirstAt trace k) refl; high = there .high };
+        halts = λ e. absurd (false≢true (sym (drives k h l) ∙ e));
+      }
+
+  after-second : (k : ℕ) → k < n → Dec (k < start) → Dec (k < end) → Second trace n most (leastBy (flagsAt trace k)) k (gearAt after k)
+  after-second k l (yes left) d = subst (Second trace n most (leastBy (flagsAt trace k)) k) (sym (before-run k left)) (fit .second k l)
+  after-second k l (no right) (yes below) =
+      subst (Second trace n most (leastBy (flagsAt trace k)) k) (sym (in-run k (omega arith) below)) (run-second k (omega arith) below)
+  after-second k l (no right) (no above) =
+      subst (Second trace n most (leastBy (flagsAt trace k)) k) (sym (behind-run k (omega arith))) (fit .second k l)
+
+  after-near : (k : ℕ) → suc k < n → stopAt trace (suc k) ≡ false → Dec (suc k < start) → Dec (end < suc k) → Near (gearAt after k) (gearAt after (suc k))
+  after-near k l e (yes left) d =
+      let near = fit .near k l e in
+      let here = before-run k (omega arith) in
+      let next = before-run (suc k) left in
+      record { up = omega arith; down = omega arith }
+  after-near k l e (no right) (yes above) =
+      let near = fit .near k l e in
+      let here = behind-run k (omega arith) in
+      let next = behind-run (suc k) (omega arith) in
+      record { up = omega arith; down = omega arith }
+  after-near k l e (no right) (no below) =
+      let here = around-run k (omega arith) (omega arith) (decLt k start) (decLt k end) in
+      let next = around-run (suc k) (omega arith) (omega arith) (decLt (suc k) start) (decLt (suc k) end) in
+      record { up = omega arith; down = omega arith }
+
+  after-fit : Fit trace n most (filled row start (gearAt row end) (end - start))
+  unfolding after
+  after-fit = record {
+    long = omega (arith, fill-length row start (gearAt row end) (end - start), fit .long);
+    second = λ k l. after-second k l (decLt k start) (decLt k end);
+    near = λ k l e. after-near k l e (decLt (suc k) start) (decLt end (suc k));
+  }
+
+module _ (trace : List ℕ) (n most : ℕ) where
+  -- a run holds no stop second
+  run-drives : (row : List ℕ) (start : ℕ) → stopAt trace start ≡ false → (k : ℕ) → start ≤ k → k < endAt trace row n start → stopAt trace k ≡ false
+  run-drives row start drive k h l = go (decLt start k)
+    where
+      go : Dec (start < k) → stopAt trace k ≡ false
+      go (yes past) =
+          not-true (stopAt trace k)
+          (both (not (stopAt trace k)) (eqb (gearAt row k) (gearAt row start))
+          (scan-before (goesOn trace row (gearAt row start)) (start + 1) (n - (start + 1)) k (omega arith) l) .0)
+      go (no here) =
+          let same : k ≡ start = omega arith in
+          ap (stopAt trace) same ∙ drive
+
+  cond-fit : (b : Bool) (x y : List ℕ) → Fit trace n most x → Fit trace n most y → Fit trace n most (cond b x y)
+  cond-fit true x y p q = p
+  cond-fit false x y p q = q
+
+  -- one turn, then all
+  turn-fit : (row : List ℕ) (start : ℕ) → Fit trace n most row → Fit trace n most (rowAfter trace row n start)
+  unfolding rowAfter runJudged
+  turn-fit row start fit = go (stopAt trace start) (takes trace row n start end) refl refl
+    where
+      end : ℕ
+      end = endAt trace row n start
+
+      go : (b c : Bool) → stopAt trace start ≡ b → takes trace row n start end ≡ c
+          → Fit trace n most (cond b row (cond c (filled row start (gearAt row end) (end - start)) row))
+      go true c e f = fit
+      go false false e f = fit
+      go false true e f =
+          after-fit trace row n most start end fit (end-gt trace n row start start (omega arith)) (run-drives row start e) (taken trace row n start end f)
+
+  smooth-fit : (row : List ℕ) (start fuel : ℕ) → Fit trace n most row → Fit trace n most (smooth trace n row start fuel)
+  unfolding smooth
+  smooth-fit row start zero fit = fit
+  smooth-fit row start (suc fuel) fit =
+      cond-fit (ltb start n) _ row (smooth-fit (rowAfter trace row n start) (nextAfter trace row n start) fuel (turn-fit row start fit)) fit
+
+  pub smoothed-fit : (row : List ℕ) → Fit trace n most row → Fit trace n most (smoothed trace row n)
+  unfolding smoothed
+  smoothed-fit row fit = smooth-fit row 0 n fit
