@@ -11,3 +11,5 @@ pub mod Rows
 pub mod Passes
 pub mod Seconds
 pub mod Smoothing
+pub mod Finished
+pub mod Gears

@@ -1,0 +1,91 @@
+-- The gears of a finished row, from the shift speeds through the six corrections: each second has one that it allows, and is near the one before it
+-- outside stops. Assumes nothing.
+use mathlib.Core.Path.{_≡_, sym, ap, subst}
+use mathlib.Core.Bool.{Bool, true, false, cond}
+use mathlib.Core.List.{List}
+use Prim.Native.Nat.{ℕ, suc, _+_, _-_, _*_, _≤_}
+use native.Mathlib.Omega.{arith}
+use lib.ListN.{length}
+use Rattle.trace.specs.House.{flagsAt, speedAt, stop, acceleration}
+use Rattle.shift.specs.declared.Shift.{Shift}
+use Rattle.shift.specs.declared.Own.{Own}
+use Rattle.shift.specs.Speeds.{aboveAt, tallyOf, ownGear}
+use Rattle.shift.proofs.Counting.{count-most}
+use Rattle.row.specs.declared.Rule.the-variants.{NoFirst, NoShift, NoDrop, OneStep}
+use Rattle.row.specs.Row.{gearAt}
+use Rattle.row.specs.Corrections.{capRuns, passBy}
+use Rattle.phase.specs.Phase.{firstRow, clutched}
+use Rattle.runs.specs.Corrected.{corrected}
+use Rattle.gear.specs.Own.{ownSecond, ownAt}
+use Rattle.gear.specs.Sheet.{rowOf}
+use Rattle.claims.proofs.Stores.{not-stored}
+use Rattle.claims.proofs.Rows.{clutching, uncorrected-length, row-length}
+use Rattle.claims.proofs.Passes.{cap-length, pass-length}
+use Rattle.claims.proofs.Seconds.{leastBy, Between, Second, first-second, cap-second, pass-second}
+use Rattle.claims.proofs.Smoothing.{Fit, pass-near, smoothed-fit}
+
+-- ---- the gears that the shift speeds give
+module _ (s : Shift) (enough : 3 ≤ s .gears) where
+  own-range : (accelerates : Bool) (speed : ℕ) → Between 1 (s .gears) (ownGear s accelerates speed .gear)
+  unfolding ownGear tallyOf
+  own-range true speed =
+      let few = count-most (aboveAt (s .first) (s .higher) (s .ndv) speed) (s .gears - 1) in
+      record { low = omega arith; high = omega arith }
+  own-range false speed =
+      let few = count-most (aboveAt (s .first) (s .higher) (s .ndv) speed) (s .gears - 2) in
+      record { low = omega arith; high = omega arith }
+
+  second-range : (flags speed : ℕ) → stop flags ≡ false → Between 1 (s .gears) (ownSecond s flags speed .gear)
+  unfolding ownSecond
+  second-range flags speed e =
+      let own = ownGear s (acceleration flags) speed in
+      let is : ownSecond s flags speed ≡ own = ap (λ (b : Bool). cond b (record { gear = 0; close = false }) own) e in
+      subst (λ (o : Own). Between 1 (s .gears) (o .gear)) (sym is) (own-range (acceleration flags) speed)
+
+  -- ---- through the corrections
+  module _ (trace : List ℕ) (n : ℕ) where
+    corrected-fit : Fit trace n (s .gears) (corrected trace (firstRow (λ k. ownAt s trace k .gear) trace n) n)
+    corrected-fit =
+        let row₀ = firstRow (λ k. ownAt s trace k .gear) trace n in
+        let row₁ = capRuns trace row₀ n in
+        let row₂ = passBy NoFirst trace row₁ n in
+        let row₃ = passBy NoShift trace row₂ n in
+        let row₄ = passBy NoDrop trace row₃ n in
+        let long₀ : 2 * n ≤ length row₀ = omega (arith, uncorrected-length s trace n) in
+        let long₁ : 2 * n ≤ length row₁ = omega (arith, cap-length trace row₀ n) in
+        let long₂ : 2 * n ≤ length row₂ = omega (arith, pass-length NoFirst trace row₁ n) in
+        let long₃ : 2 * n ≤ length row₃ = omega (arith, pass-length NoShift trace row₂ n) in
+        let long₄ : 2 * n ≤ length row₄ = omega (arith, pass-length NoDrop trace row₃ n) in
+        let some : 2 ≤ s .gears = omega arith in
+        let second₀ = first-second trace n (s .gears) some (λ k. ownAt s trace k .gear) (λ k l e. second-range (flagsAt trace k) (speedAt trace k) e) in
+        let second₁ = cap-second trace n (s .gears) some row₀ long₀ second₀ in
+        let second₂ = pass-second trace n (s .gears) some NoFirst row₁ long₁ second₁ in
+        let second₃ = pass-second trace n (s .gears) some NoShift row₂ long₂ second₂ in
+        let second₄ = pass-second trace n (s .gears) some NoDrop row₃ long₃ second₃ in
+        smoothed-fit trace n (s .gears) (passBy OneStep trace row₄ n)
+        (record {
+          long = omega (arith, pass-length OneStep trace row₄ n);
+          second = pass-second trace n (s .gears) some OneStep row₄ long₄ second₄;
+          near = pass-near trace row₄ n long₄;
+        })
+
+    -- the clutch changes no gear
+    clutched-gear : (row : List ℕ) (k : ℕ) → gearAt (clutched trace row n) k ≡ gearAt row k
+    unfolding clutched
+    clutched-gear row k = not-stored (clutching trace) (2 * k) (λ j (e : 2 * k ≡ 2 * j + 1). omega arith) row n
+
+    pub row-fit : Fit trace n (s .gears) (rowOf s trace n)
+    unfolding rowOf
+    row-fit =
+        let row = corrected trace (firstRow (λ k. ownAt s trace k .gear) trace n) n in
+        let same : (k : ℕ) → gearAt row k ≡ gearAt (clutched trace row n) k = λ k. sym (clutched-gear row k) in
+        let fit = corrected-fit in
+        record {
+          long = omega (arith, row-length s trace n);
+          second = λ k l. subst (Second trace n (s .gears) (leastBy (flagsAt trace k)) k) (same k) (fit .second k l);
+          near = λ k l e.
+              let near = fit .near k l e in
+              let here = same k in
+              let next = same (suc k) in
+              record { up = omega arith; down = omega arith };
+        }
