@@ -43,6 +43,7 @@ pub fn larger(m: i64, n: i64) -> i64
 }
 
 // The lower and the upper end of a number.
+#[repr(C)]
 pub struct Ends {
     pub lower: i64,
     pub upper: i64,

@@ -14,6 +14,7 @@ ghost use Rattle.reading.specs.Units.{unitsOf};
 ghost use Rattle.bag.specs.Sheet.{partsOf, classHolds, testChecks, pumped, valueChecks, usable, gasChecks, readingChecks, ofThird, judgeSheet};
 
 // Field 9: milligrams per cubic metre.
+#[repr(C)]
 pub struct Densities {
     pub hc: u32,
     pub co: u32,
@@ -37,6 +38,7 @@ pub struct Part {
 }
 
 // Field 10: the dilution triple, in tenths.
+#[repr(C)]
 pub struct Triple {
     pub d: u32,
     pub wc: u32,
@@ -44,6 +46,7 @@ pub struct Triple {
 }
 
 // Field 11: k in 1/10,000, the three carbon factors in 1/1,000, the fuel's density in g/l.
+#[repr(C)]
 pub struct Fuel {
     pub k: u32,
     pub hc: u32,
@@ -53,6 +56,7 @@ pub struct Fuel {
 }
 
 // Field 12: micrograms/km.
+#[repr(C)]
 pub struct Limits {
     pub hc: u64,
     pub co: u64,

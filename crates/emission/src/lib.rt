@@ -30,6 +30,7 @@ pub struct Readings {
     pub third: Sides,
 }
 
+#[repr(C)]
 pub struct Parts {
     pub first: PartResult,
     pub second: PartResult,
@@ -121,7 +122,7 @@ fn judge_late(s: BagSheet, r: Readings) -> Judged
     dilution_check(1, triple, r.first.bag, rich_2)
 }
 
-fn no_gases() -> Gases
+pub fn no_gases() -> Gases
     ensures { λ r. ⌜ r ≡ nothing ⌝ }
 {
     Gases {
@@ -132,7 +133,7 @@ fn no_gases() -> Gases
     }
 }
 
-fn no_part() -> PartResult
+pub fn no_part() -> PartResult
     ensures { λ r. ⌜ r ≡ noPart ⌝ }
 {
     PartResult {

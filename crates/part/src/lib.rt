@@ -15,6 +15,7 @@ ghost use Rattle.stage.specs.Ranges.{largestKh};
 ghost use Rattle.part.specs.Room.{ReadingSizes, TripleRanges, GasRanges, MassesRanges, DryMassSizes, MassSizes, PartRanges};
 
 // The ends of each gas: readings, masses or rates.
+#[repr(C)]
 pub struct Gases {
     pub hc: Ends,
     pub co: Ends,
@@ -29,6 +30,7 @@ pub struct Sides {
 }
 
 // The volume in ml, masses in micrograms, rates in micrograms/km.
+#[repr(C)]
 pub struct PartResult {
     pub volume: Ends,
     pub mass: Gases,
