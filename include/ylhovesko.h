@@ -2,7 +2,7 @@
  * Ylhovesko: the calculation core for motorcycle emission benches, as C calls it.
  *
  * Link target/staticlib/libboundary.a, which `rt staticlib boundary` makes. It is x86-64 code, keeps nothing between calls, allocates nothing
- * and calls nothing but memset, so any number of threads may call it at once. A call takes under 4 KB of stack.
+ * and calls nothing but memset and memcpy, so any number of threads may call it at once. A call takes under 5 KB of stack.
  *
  * Every function answers every input: a damaged file or sheet is refused with a number and a place, and on a refusal every buffer stays as it was
  * lent. The caller has to see to three things only, which no proof can: each pointer is not null, not even with length 0, and leads to as many
@@ -33,9 +33,14 @@ extern "C" {
  *   7       too much power for the mass                             -
  *   8       start past the buffer, or under 2 x count bytes there   -
  *   9       a speed too close to a shift speed to call              the second
+ *   10      class not 1 to 3, or wrong number of parts              -
+ *   11      a value of the bag sheet out of range                   the part, 0 for the test's own fields; within: the field
+ *   12      a reading that cannot be used                           the part; within: the gas; side: 1 bag, 2 air
+ *   13      G not below Q: the bag is too rich                      the part
+ *   14      H above 30: the air is too humid                        the part
  *   15      the two traces of a pair differ in count                -
  *
- * within and side are 0 in all of these.
+ * Parts count from 1, and the gases are 1 HC, 2 CO, 3 NOx, 4 CO2. within and side are 0 where the table does not name them.
  */
 typedef struct {
     uint32_t number;
@@ -84,6 +89,119 @@ ylhovesko_outcome ylhovesko_judge_pair(const uint8_t *normal, size_t normal_leng
  * caller's own: nothing is copied.
  */
 uint32_t ylhovesko_chosen(const uint8_t *normal, size_t normal_length, const uint8_t *reduced, size_t reduced_length, bool reduced_speed);
+
+/* Kinds of a reading. A caller may name any other number, which counts as not fitted. */
+#define YLHOVESKO_PPM 0u
+#define YLHOVESKO_PERCENT 1u
+#define YLHOVESKO_OVER_RANGE 2u
+#define YLHOVESKO_NOT_FITTED 3u
+
+/* What the analyser sent for one gas. bits are those of its 32-bit float, whichever they are; over range and not fitted have none. */
+typedef struct {
+    uint32_t kind;
+    uint32_t bits;
+} ylhovesko_reading;
+
+/* The readings of one bag, or of its dilution air. */
+typedef struct {
+    ylhovesko_reading hc;
+    ylhovesko_reading co;
+    ylhovesko_reading nox;
+    ylhovesko_reading co2;
+} ylhovesko_bag;
+
+/* A part of the bag sheet: the fields 1 to 9 of refusal 11, in this order, and its readings. */
+typedef struct {
+    uint32_t pump;        /* ml a revolution, 100 to 20,000 */
+    uint32_t revolutions; /* 1 to 100,000, and at most 10^9 ml with pump */
+    uint32_t barometer;   /* Pa, 80,000 to 110,000 */
+    uint32_t depression;  /* at the pump's inlet in Pa, 0 to 20,000 */
+    int32_t temperature;  /* at the inlet in 0.1 degree C, -400 to 1,500 */
+    uint32_t humidity;    /* 0.1 percent, 0 to 1,000 */
+    uint32_t saturation;  /* saturation pressure in Pa, 0 to 12,000 */
+    uint32_t distance;    /* m, 100 to 100,000 */
+    struct {
+        uint32_t hc;
+        uint32_t co;
+        uint32_t nox;
+        uint32_t co2;
+    } density; /* mg per cubic metre, 1 to 2,100,000 each */
+    ylhovesko_bag bag;
+    ylhovesko_bag air;
+} ylhovesko_part;
+
+/* The bag sheet of a Type I test. part[2] is read for class 3 alone. */
+typedef struct {
+    uint32_t class_number; /* 1 to 3 */
+    uint32_t parts;        /* how many are given: 2 for the classes 1 and 2, 3 for class 3 */
+    struct {
+        uint32_t d;  /* 100 to 200 */
+        uint32_t wc; /* 0 to 20 */
+        uint32_t wh; /* 0 to 20 */
+    } triple;        /* field 10: the dilution triple, in tenths */
+    struct {
+        uint32_t k;       /* in 1/10,000, 1 to 1,500 */
+        uint32_t hc;      /* the carbon factors in 1/1,000, 0 to 1,000 each */
+        uint32_t co;
+        uint32_t co2;
+        uint32_t density; /* g/l, 600 to 1,000 */
+    } fuel;               /* field 11 */
+    struct {
+        uint64_t hc;
+        uint64_t co;
+        uint64_t nox;
+        uint64_t co2;
+    } limits; /* field 12: micrograms/km, 0 to 10^12 each */
+    ylhovesko_part part[3];
+} ylhovesko_bag_sheet;
+
+/* A figure: the exact one lies between the two ends, or at one of them. */
+typedef struct {
+    int64_t lower;
+    int64_t upper;
+} ylhovesko_ends;
+
+/* A figure of each gas. */
+typedef struct {
+    ylhovesko_ends hc;
+    ylhovesko_ends co;
+    ylhovesko_ends nox;
+    ylhovesko_ends co2;
+} ylhovesko_gases;
+
+/* The figures of a part. */
+typedef struct {
+    ylhovesko_ends volume; /* of diluted gas, ml */
+    ylhovesko_gases mass;  /* micrograms; below zero where the air had more than the bag */
+    ylhovesko_gases rate;  /* micrograms/km */
+} ylhovesko_part_result;
+
+/* Verdicts: the whole figure at or below its limit, the whole figure above it, or the limit between the ends. */
+#define YLHOVESKO_PASS 0u
+#define YLHOVESKO_FAIL 1u
+#define YLHOVESKO_UNDECIDED 2u
+
+/* The result of a test. Where outcome is a refusal all the rest is 0; for the classes 1 and 2 so is part[2]. */
+typedef struct {
+    ylhovesko_outcome outcome;
+    ylhovesko_part_result part[3];
+    ylhovesko_gases weighted; /* micrograms/km */
+    struct {
+        uint32_t hc;
+        uint32_t co;
+        uint32_t nox;
+        uint32_t co2;
+    } verdict;
+    ylhovesko_ends fuel; /* microlitres per 100 km */
+} ylhovesko_test_result;
+
+/*
+ * The emission sheet: a bag sheet becomes the full result of the test. Refusals 10 to 14.
+ *
+ *     ylhovesko_test_result r = ylhovesko_result(sheet);
+ *     if (r.outcome.number == 0 && r.verdict.nox == YLHOVESKO_FAIL) puts("too much NOx");
+ */
+ylhovesko_test_result ylhovesko_result(ylhovesko_bag_sheet sheet);
 
 #ifdef __cplusplus
 }

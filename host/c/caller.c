@@ -19,6 +19,51 @@ static int is(ylhovesko_outcome o, uint32_t number, uint32_t at)
     return o.number == number && o.at == at && o.within == 0 && o.side == 0;
 }
 
+static int ends(ylhovesko_ends e, int64_t lower, int64_t upper)
+{
+    return e.lower == lower && e.upper == upper;
+}
+
+/* two parts with 1 percent of CO2 in the bag and nothing else, and nothing in the air */
+static ylhovesko_bag_sheet bag_sheet(void)
+{
+    const ylhovesko_reading none = {YLHOVESKO_PPM, 0};
+    const ylhovesko_reading one_percent = {YLHOVESKO_PERCENT, 0x3f800000};
+    const ylhovesko_bag air = {none, none, none, none};
+    const ylhovesko_bag bag = {none, none, none, one_percent};
+    const ylhovesko_part part = {1000, 50000, 101300, 0, 0, 0, 0, 1000, {577000, 1160000, 1910000, 1830000}, bag, air};
+    const ylhovesko_bag_sheet sheet = {1, 2, {134, 10, 10}, {1155, 866, 429, 273, 750}, {0, 0, 0, 0}, {part, part, part}};
+
+    return sheet;
+}
+
+static void emission(void)
+{
+    ylhovesko_bag_sheet sheet = bag_sheet();
+    ylhovesko_test_result result = ylhovesko_result(sheet);
+    ylhovesko_test_result refused;
+
+    expect("the test's outcome", is(result.outcome, 0, 0));
+    expect("volume", ends(result.part[1].volume, 53647752, 53647753));
+    expect("no third part", ends(result.part[2].volume, 0, 0));
+    expect("verdicts", result.verdict.hc == YLHOVESKO_PASS && result.verdict.co2 == YLHOVESKO_FAIL);
+    expect("HC", ends(result.weighted.hc, 0, 0));
+    expect("CO2", result.weighted.co2.lower > 0 && result.weighted.co2.lower < result.weighted.co2.upper);
+
+    sheet.limits.co2 = (uint64_t)result.weighted.co2.lower;
+    expect("undecided", ylhovesko_result(sheet).verdict.co2 == YLHOVESKO_UNDECIDED);
+    sheet.part[1].air.nox.kind = 7;
+    result = ylhovesko_result(sheet);
+    memset(&refused, 0, sizeof refused);
+    refused.outcome = (ylhovesko_outcome){12, 2, 3, 2};
+    expect("a kind that no table has, and no figure beside a refusal", memcmp(&result, &refused, sizeof result) == 0);
+    sheet.part[0].temperature = -401;
+    result = ylhovesko_result(sheet);
+    expect("temperature", result.outcome.number == 11 && result.outcome.at == 1 && result.outcome.within == 5 && result.outcome.side == 0);
+    sheet.parts = 3;
+    expect("parts", is(ylhovesko_result(sheet).outcome, 10, 0));
+}
+
 int main(void)
 {
     /* a stop, 8.0 km/h in acceleration, 200.0 km/h in cruise */
@@ -50,6 +95,8 @@ int main(void)
     expect("switch off", ylhovesko_chosen(normal, sizeof normal, normal, sizeof normal, false) == YLHOVESKO_NORMAL);
     expect("switch on", ylhovesko_chosen(normal, sizeof normal, normal, sizeof normal, true) == YLHOVESKO_REDUCED);
     expect("none chosen", ylhovesko_chosen(normal, sizeof normal, reduced, sizeof reduced, true) == YLHOVESKO_NEITHER);
+
+    emission();
 
     if (!wrong)
         printf("caller: ok\n");
