@@ -3,6 +3,8 @@
 //! It shares no line with the proved core, so that where both give the same bytes the paper was read the same way twice. It favours what is
 //! easy to compare with the paper over what is fast: whole rows are copied, and numbers are 128 bits wide where 64 would need an argument.
 
+pub mod bags;
+pub mod exact;
 pub mod gear;
 pub mod trace;
 
