@@ -5,6 +5,7 @@
  *   'g' trace, vehicle, buffer, start   ->  outcome, the buffer's bytes
  *   'p' normal, reduced                 ->  outcome
  *   'c' normal, reduced, switch (1 byte) -> which one (32 bits)
+ *   'r' bag sheet                       ->  result
  *
  * where a slice is its length (64 bits) and its bytes.
  */
@@ -69,14 +70,39 @@ static int chosen(void)
     return give(&which, sizeof which);
 }
 
+static int result(void)
+{
+    ylhovesko_bag_sheet sheet;
+    ylhovesko_test_result r;
+
+    if (!take(&sheet, sizeof sheet))
+        return 0;
+    r = ylhovesko_result(sheet);
+    return give(&r, sizeof r);
+}
+
+static int answer(int call)
+{
+    switch (call) {
+    case 'g':
+        return gears();
+    case 'p':
+        return judge_pair();
+    case 'c':
+        return chosen();
+    case 'r':
+        return result();
+    default:
+        return 0;
+    }
+}
+
 int main(void)
 {
     int call;
 
     while ((call = getchar()) != EOF) {
-        int done = call == 'g' ? gears() : call == 'p' ? judge_pair() : call == 'c' ? chosen() : 0;
-
-        if (!done || fflush(stdout) != 0)
+        if (!answer(call) || fflush(stdout) != 0)
             return 1;
     }
     return 0;

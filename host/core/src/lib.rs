@@ -3,6 +3,7 @@
 //! Nothing is worked out here: each function lends its slices to the compiled core and turns the numbers that come back into a `Result` or a slice.
 //! A sheet has its own module.
 
+pub mod bags;
 pub mod gear;
 
 #[cfg(linked)]

@@ -1,5 +1,6 @@
 //! The core's calls where its archive is linked.
 
+use crate::bags::{Sheet, TestOutcome};
 use crate::gear::Vehicle;
 use crate::Outcome;
 
@@ -15,9 +16,10 @@ extern "C" {
     ) -> Outcome;
     fn ylhovesko_judge_pair(normal: *const u8, normal_length: usize, reduced: *const u8, reduced_length: usize) -> Outcome;
     fn ylhovesko_chosen(normal: *const u8, normal_length: usize, reduced: *const u8, reduced_length: usize, switch: bool) -> u32;
+    fn ylhovesko_result(sheet: Sheet) -> TestOutcome;
 }
 
-// Safety of the three: a slice's pointer is not null and leads to its bytes, a `&mut` overlaps nothing, and the core keeps none of them.
+// Safety of all: a slice's pointer is not null and leads to its bytes, a `&mut` overlaps nothing, and the core keeps none of them.
 
 pub fn gears(trace: &[u8], vehicle: Vehicle, buffer: &mut [u8], start: usize) -> Outcome {
     unsafe { ylhovesko_gears(trace.as_ptr(), trace.len(), vehicle, buffer.as_mut_ptr(), buffer.len(), start) }
@@ -29,4 +31,8 @@ pub fn judge_pair(normal: &[u8], reduced: &[u8]) -> Outcome {
 
 pub fn chosen(normal: &[u8], reduced: &[u8], switch: bool) -> u32 {
     unsafe { ylhovesko_chosen(normal.as_ptr(), normal.len(), reduced.as_ptr(), reduced.len(), switch) }
+}
+
+pub fn result(sheet: Sheet) -> TestOutcome {
+    unsafe { ylhovesko_result(sheet) }
 }

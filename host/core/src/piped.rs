@@ -4,6 +4,7 @@ use std::cell::RefCell;
 use std::io::{Read, Write};
 use std::process::{Child, ChildStdin, ChildStdout, Command, Stdio};
 
+use crate::bags::{Ends, Figures, Gases, Part, PartResult, Sheet, TestOutcome};
 use crate::gear::Vehicle;
 use crate::Outcome;
 
@@ -90,4 +91,53 @@ pub fn chosen(normal: &[u8], reduced: &[u8], switch: bool) -> u32 {
     let mut answer = [0; 4];
     SERVER.with_borrow_mut(|server| server.call(&call, &mut answer));
     number(&answer, 0)
+}
+
+fn put_words(call: &mut Vec<u8>, words: &[u32]) {
+    words.iter().for_each(|word| call.extend(word.to_le_bytes()));
+}
+
+fn put_part(call: &mut Vec<u8>, p: &Part) {
+    put_words(call, &[p.pump, p.revolutions, p.barometer, p.depression, p.temperature as u32, p.humidity, p.saturation, p.distance]);
+    put_words(call, &p.density.each());
+    for reading in p.bag.each().into_iter().chain(p.air.each()) {
+        put_words(call, &[reading.kind, reading.bits]);
+    }
+}
+
+/// Takes the pairs of ends of an answer, one after the other.
+struct EndsIn<'a>(&'a [u8]);
+
+impl EndsIn<'_> {
+    fn ends(&mut self) -> Ends {
+        let (taken, rest) = self.0.split_at(16);
+        self.0 = rest;
+        let end = |at: usize| i64::from_le_bytes(taken[at..at + 8].try_into().unwrap());
+        Ends { lower: end(0), upper: end(8) }
+    }
+
+    fn gases(&mut self) -> Gases<Ends> {
+        Gases { hc: self.ends(), co: self.ends(), nox: self.ends(), co2: self.ends() }
+    }
+
+    fn part(&mut self) -> PartResult {
+        PartResult { volume: self.ends(), mass: self.gases(), rate: self.gases() }
+    }
+}
+
+pub fn result(sheet: Sheet) -> TestOutcome {
+    let Sheet { class, count, triple, fuel, limits, parts } = sheet;
+    let mut call = vec![b'r'];
+    put_words(&mut call, &[class, count, triple.d, triple.wc, triple.wh, fuel.k, fuel.hc, fuel.co, fuel.co2, fuel.density]);
+    limits.each().iter().for_each(|limit| call.extend(limit.to_le_bytes()));
+    parts.iter().for_each(|part| put_part(&mut call, part));
+    let mut answer = [0; size_of::<TestOutcome>()];
+    SERVER.with_borrow_mut(|server| server.call(&call, &mut answer));
+    let mut figures = EndsIn(&answer[16..]);
+    let parts = [figures.part(), figures.part(), figures.part()];
+    let weighted = figures.gases();
+    let (verdicts, rest) = figures.0.split_at(16);
+    let verdicts = Gases::of([0, 1, 2, 3].map(|gas| number(verdicts, gas)));
+    let fuel = EndsIn(rest).ends();
+    TestOutcome { outcome: outcome(&answer), figures: Figures { parts, weighted, verdicts, fuel } }
 }
