@@ -1,5 +1,6 @@
 //! Holds the proved core against stored cases and against the second implementation: what both tests need. A sheet has its own module.
 
+pub mod bags;
 pub mod gear;
 pub mod random;
 

@@ -38,7 +38,7 @@ impl Random {
             0 => least,
             1 => most,
             2 => (least + 1).min(most),
-            3 => (most - 1).max(least),
+            3 => most.saturating_sub(1).max(least),
             _ => self.from(least, most),
         }
     }

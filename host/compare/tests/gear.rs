@@ -35,11 +35,11 @@ fn stored_cases() {
     assert_eq!(lines, 500);
 }
 
-/// Random cases, YLHOVESKO_GEAR_CASES of them. A difference is shown as a line of vectors/gear.txt, with the case's seed.
+/// Random cases, YLHOVESKO_CASES of them. A difference is shown as a line of vectors/gear.txt, with the case's seed.
 #[test]
 fn random_cases() {
     let mut seen = BTreeMap::new();
-    for seed in 0..cases("YLHOVESKO_GEAR_CASES", 100_000) {
+    for seed in 0..cases("YLHOVESKO_CASES", 100_000) {
         let case = case(seed);
         let core = by_core(&case);
         assert!(core == by_plain(&case), "seed {seed}: {case}\ncore  {core:?}\nplain {:?}", by_plain(&case));

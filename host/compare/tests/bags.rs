@@ -1,0 +1,46 @@
+//! The emission sheet: the proved core and the second implementation on the stored cases, and on random ones.
+
+use std::collections::BTreeMap;
+
+use compare::bags::{by_core, by_plain, case, read, Line};
+use compare::cases;
+
+/// Every line of vectors/bags.txt: the number, the place and every figure.
+#[test]
+fn stored_cases() {
+    let text = include_str!("../../vectors/bags.txt");
+    let mut lines = 0;
+    for (line, text) in (1..).zip(text.lines()).filter(|(_, text)| !text.starts_with('#')) {
+        let (sheet, answer) = read(text);
+        assert!(text.starts_with(&format!("{} ", Line(&sheet))), "line {line} is written otherwise: {}", Line(&sheet));
+        assert_eq!(by_plain(&sheet), (answer.clone(), true), "plain, line {line}");
+        assert_eq!(by_core(&sheet), answer, "core, line {line}");
+        lines += 1;
+    }
+    assert_eq!(lines, 500);
+}
+
+/// Random cases, YLHOVESKO_CASES of them. A difference is shown as a line of vectors/bags.txt, with the case's seed. The core's ends are the second
+/// implementation's, and the exact figure lies between those.
+#[test]
+fn random_cases() {
+    let mut seen = BTreeMap::new();
+    let mut verdicts = [0; 3];
+    for seed in 0..cases("YLHOVESKO_CASES", 100_000) {
+        let sheet = case(seed);
+        let core = by_core(&sheet);
+        let (plain, holds) = by_plain(&sheet);
+        assert!(core == plain, "seed {seed}: {}\ncore  {core:?}\nplain {plain:?}", Line(&sheet));
+        assert!(holds, "seed {seed}: {}\nan exact figure is not between its ends: {plain:?}", Line(&sheet));
+        *seen.entry(core.0[0]).or_insert(0) += 1;
+        if core.0[0] == 0 {
+            [2, 5, 8, 11].iter().for_each(|&verdict| verdicts[core.1[verdict] as usize] += 1);
+        }
+    }
+    println!("cases by refusal number: {seen:?}; verdicts: {verdicts:?}");
+    if seen.values().sum::<u64>() >= 100_000 {
+        assert!(seen[&0] >= 40_000, "too few are accepted: {seen:?}");
+        assert!((10..=14).all(|number| seen.get(&number).is_some_and(|&count| count >= 100)), "a refusal is hardly met: {seen:?}");
+        assert!(verdicts.iter().all(|&count| count >= 1000), "a verdict is hardly met: {verdicts:?}");
+    }
+}
