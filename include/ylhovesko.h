@@ -177,11 +177,11 @@ typedef struct {
 } ylhovesko_part_result;
 
 /* Verdicts: the whole figure at or below its limit, the whole figure above it, or the limit between the ends. */
-#define YLHOVESKO_PASS 0u
-#define YLHOVESKO_FAIL 1u
-#define YLHOVESKO_UNDECIDED 2u
+#define YLHOVESKO_PASS 1u
+#define YLHOVESKO_FAIL 2u
+#define YLHOVESKO_UNDECIDED 3u
 
-/* The result of a test. Where outcome is a refusal all the rest is 0; for the classes 1 and 2 so is part[2]. */
+/* The result of a test. Where outcome is a refusal all the rest is 0, which is no verdict; for the classes 1 and 2 so is part[2]. */
 typedef struct {
     ylhovesko_outcome outcome;
     ylhovesko_part_result part[3];

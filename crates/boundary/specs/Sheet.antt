@@ -68,10 +68,11 @@ sheetOf s =
     }
 
 -- ---- out
+-- 0 is no verdict: it stands beside a refusal
 abbrev pub verdictNumber : Verdict → ℕ
-verdictNumber Pass = 0
-verdictNumber Fail = 1
-verdictNumber Undecided = 2
+verdictNumber Pass = 1
+verdictNumber Fail = 2
+verdictNumber Undecided = 3
 
 unfoldable pub verdictNumbers : Verdicts → VerdictNumbers
 verdictNumbers v =
@@ -82,7 +83,7 @@ verdictNumbers v =
       co2 = verdictNumber (v .co2);
     }
 
--- beside a refusal all figures are 0
+-- beside a refusal all figures are 0, and there is no verdict
 unfoldable pub withNothing : Outcome → TestOutcome
 withNothing outcome =
     record {

@@ -137,7 +137,7 @@ pub struct Sheet {
     pub third: SheetPart,
 }
 
-// 0 pass, 1 fail, 2 undecided.
+// 1 pass, 2 fail, 3 undecided; 0 is no verdict, so that beside a refusal no gas passes.
 #[repr(C)]
 pub struct VerdictNumbers {
     pub hc: u32,
@@ -220,9 +220,9 @@ fn verdict_number(v: Verdict) -> u32
     ensures { λ r. ⌜ r ≡ verdictNumber v ⌝ }
 {
     match v {
-        Verdict::Pass => 0,
-        Verdict::Fail => 1,
-        Verdict::Undecided => 2,
+        Verdict::Pass => 1,
+        Verdict::Fail => 2,
+        Verdict::Undecided => 3,
     }
 }
 

@@ -127,9 +127,9 @@ pub enum Verdict {
 impl Verdict {
     fn of(number: u32) -> Verdict {
         match number {
-            0 => Verdict::Pass,
-            1 => Verdict::Fail,
-            2 => Verdict::Undecided,
+            1 => Verdict::Pass,
+            2 => Verdict::Fail,
+            3 => Verdict::Undecided,
             other => unreachable!("the core gives verdict {other} of three"),
         }
     }
