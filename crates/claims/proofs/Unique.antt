@@ -112,8 +112,24 @@ use Rattle.part.proofs.is_dry_enough.Reads as part-is-dry-enough
 use Rattle.part.proofs.is_dry_enough.Kinds as part-is-dry-enough-kinds
 use Rattle.part.proofs.part_of.Reads as part-part-of
 use Rattle.part.proofs.part_of.Kinds as part-part-of-kinds
+use Rattle.emission.proofs.no_gases.Reads as emission-no-gases
+use Rattle.emission.proofs.no_gases.Kinds as emission-no-gases-kinds
+use Rattle.emission.proofs.no_part.Reads as emission-no-part
+use Rattle.emission.proofs.no_part.Kinds as emission-no-part-kinds
 use Rattle.emission.proofs.test.Reads as emission-test
 use Rattle.emission.proofs.test.Kinds as emission-test-kinds
+use Rattle.preset.proofs.petrol.Reads as preset-petrol
+use Rattle.preset.proofs.petrol.Kinds as preset-petrol-kinds
+use Rattle.preset.proofs.diesel.Reads as preset-diesel
+use Rattle.preset.proofs.diesel.Kinds as preset-diesel-kinds
+use Rattle.boundary.proofs.ylhovesko_gears.Reads as boundary-ylhovesko-gears
+use Rattle.boundary.proofs.ylhovesko_gears.Kinds as boundary-ylhovesko-gears-kinds
+use Rattle.boundary.proofs.ylhovesko_judge_pair.Reads as boundary-ylhovesko-judge-pair
+use Rattle.boundary.proofs.ylhovesko_judge_pair.Kinds as boundary-ylhovesko-judge-pair-kinds
+use Rattle.boundary.proofs.ylhovesko_chosen.Reads as boundary-ylhovesko-chosen
+use Rattle.boundary.proofs.ylhovesko_chosen.Kinds as boundary-ylhovesko-chosen-kinds
+use Rattle.boundary.proofs.ylhovesko_result.Reads as boundary-ylhovesko-result
+use Rattle.boundary.proofs.ylhovesko_result.Kinds as boundary-ylhovesko-result-kinds
 
 -- ---- arith
 pub arith-whole-unique : Coincide 0 arith-whole-kinds.ps arith-whole-kinds.r arith-whole.Pre arith-whole.Post
@@ -282,8 +298,34 @@ pub part-part-of-unique : Coincide 0 part-part-of-kinds.ps part-part-of-kinds.r 
 part-part-of-unique κs a x y ws vs pre h h′ = (h ∙ sym h′, refl)
 
 -- ---- emission
+pub emission-no-gases-unique : Coincide 0 emission-no-gases-kinds.ps emission-no-gases-kinds.r emission-no-gases.Pre emission-no-gases.Post
+emission-no-gases-unique κs a x y ws vs pre h h′ = (h ∙ sym h′, refl)
+
+pub emission-no-part-unique : Coincide 0 emission-no-part-kinds.ps emission-no-part-kinds.r emission-no-part.Pre emission-no-part.Post
+emission-no-part-unique κs a x y ws vs pre h h′ = (h ∙ sym h′, refl)
+
 pub emission-test-unique : Coincide 0 emission-test-kinds.ps emission-test-kinds.r emission-test.Pre emission-test.Post
 emission-test-unique κs a x y ws vs pre h h′ = (h ∙ sym h′, refl)
+
+-- ---- preset
+pub preset-petrol-unique : Coincide 0 preset-petrol-kinds.ps preset-petrol-kinds.r preset-petrol.Pre preset-petrol.Post
+preset-petrol-unique κs a x y ws vs pre h h′ = (h ∙ sym h′, refl)
+
+pub preset-diesel-unique : Coincide 0 preset-diesel-kinds.ps preset-diesel-kinds.r preset-diesel.Pre preset-diesel.Post
+preset-diesel-unique κs a x y ws vs pre h h′ = (h ∙ sym h′, refl)
+
+-- ---- boundary
+pub boundary-ylhovesko-gears-unique : Coincide 2 boundary-ylhovesko-gears-kinds.ps boundary-ylhovesko-gears-kinds.r boundary-ylhovesko-gears.Pre boundary-ylhovesko-gears.Post
+boundary-ylhovesko-gears-unique κs a x y ws vs pre h h′ = (h .0 ∙ sym (h′ .0), ap (λ (l : List ℕ). (tt, (tt, (l, (tt, tt))))) (h .1 ∙ sym (h′ .1)))
+
+pub boundary-ylhovesko-judge-pair-unique : Coincide 2 boundary-ylhovesko-judge-pair-kinds.ps boundary-ylhovesko-judge-pair-kinds.r boundary-ylhovesko-judge-pair.Pre boundary-ylhovesko-judge-pair.Post
+boundary-ylhovesko-judge-pair-unique κs a x y ws vs pre h h′ = (h ∙ sym h′, refl)
+
+pub boundary-ylhovesko-chosen-unique : Coincide 2 boundary-ylhovesko-chosen-kinds.ps boundary-ylhovesko-chosen-kinds.r boundary-ylhovesko-chosen.Pre boundary-ylhovesko-chosen.Post
+boundary-ylhovesko-chosen-unique κs a x y ws vs pre h h′ = (h ∙ sym h′, refl)
+
+pub boundary-ylhovesko-result-unique : Coincide 0 boundary-ylhovesko-result-kinds.ps boundary-ylhovesko-result-kinds.r boundary-ylhovesko-result.Pre boundary-ylhovesko-result.Post
+boundary-ylhovesko-result-unique κs a x y ws vs pre h h′ = (h ∙ sym h′, refl)
 
 -- ---- the chosen trace: the same place in memory and the same bytes. The third part of a reference's value is its ghost name, which no program sees
 pub trace-choose-unique :
