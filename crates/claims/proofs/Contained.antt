@@ -2,12 +2,11 @@
 -- weighted ends, and the exact fuel figure between the fuel's. The laws of the stages, composed. Assumes nothing.
 use mathlib.Core.Path.{_≡_, refl}
 use mathlib.Core.Bool.{Bool, true, false, cond}
-use Prim.Native.Nat.{ℕ, _≤_}
+use Prim.Native.Nat.{_≤_}
 use native.Mathlib.Omega.{arith}
 use lib.Dec.{eqb}
 use borrow.Author.Tests.{eqb-true}
 use lib.IntN.{pos}
-use Rattle.arith.specs.Stages.{exactly}
 use Rattle.arith.specs.Fraction.{Between}
 use Rattle.arith.proofs.Enclosure.{exactly-holds}
 use Rattle.reading.specs.declared.Bag.{Bag}
@@ -16,52 +15,30 @@ use Rattle.bag.specs.declared.Triple.{Triple}
 use Rattle.bag.specs.declared.BagSheet.{BagSheet}
 use Rattle.bag.specs.Sound.{Tested}
 use Rattle.bag.proofs.Sound.{accepted-sound}
-use Rattle.stage.specs.declared.Weights.{Weights}
-use Rattle.stage.specs.Part.{gOf, qOf, rateOf}
-use Rattle.stage.specs.Test.{weightsOf, weightedOf}
-use Rattle.part.specs.declared.Gases.{Gases}
-use Rattle.part.specs.Part.{readingsOf, sidesOf, gIn, volumeIn, gasMass, massesOf, correctedFor, ratesOf, massIn, partOf}
+use Rattle.stage.specs.Part.{gOf, qOf}
+use Rattle.stage.specs.Test.{weightsOf}
+use Rattle.part.specs.Part.{readingsOf, sidesOf, gIn, volumeIn, gasMass, massesOf, correctedFor, massIn, partOf}
 use Rattle.part.specs.Room.{PartRanges}
 use Rattle.part.proofs.Sizes.{volume-ranges, kh-ranges}
 use Rattle.emission.specs.declared.TestResult.{TestResult}
 use Rattle.emission.specs.declared.Answer.the-variants.{Result}
-use Rattle.emission.specs.Test.{readingsIn, noPart, thirdPart, partsIn, weightedGases, resultOf, testAnswer}
+use Rattle.emission.specs.Test.{readingsIn, noPart, thirdPart, partsIn, resultOf, testAnswer}
 use Rattle.emission.specs.Room.{PartsRanges}
 use Rattle.emission.proofs.Ranges.{parts-ranges}
 use Rattle.claims.specs.Gas.{Gas, HC, CO, NOx, CO2, endsAt, messageAt, densityAt}
 use Rattle.claims.specs.Exact.{count, units, exactG, exactConcentration, exactGasVolume, exactDryMass, exactKh, exactMass, exactRate, exactThird, exactWeighted, exactFuel}
 use Rattle.claims.specs.Statements.{Contained}
 use Rattle.claims.proofs.Accepted.{accepted-result}
+use Rattle.claims.proofs.Gases.{rate-at, weighted-at, nothing-at}
 use Rattle.claims.proofs.Stages.{reading-holds, volume-holds, combination-holds, concentration-holds, gas-volume-holds, mass-holds, kh-holds, nox-mass-holds, rate-holds, weighted-holds, fuel-holds}
 
--- ---- what the definitions do with four gases, they do with each
+-- ---- readings
 reading-at : (gas : Gas) (bag : Bag) → Between (endsAt gas (readingsOf bag)) (units (messageAt gas bag))
 unfolding readingsOf
 reading-at HC bag = reading-holds (bag .hc)
 reading-at CO bag = reading-holds (bag .co)
 reading-at NOx bag = reading-holds (bag .nox)
 reading-at CO2 bag = reading-holds (bag .co2)
-
-rate-at : (gas : Gas) (mass : Gases) (distance : ℕ) → endsAt gas (ratesOf mass distance) ≡ rateOf (endsAt gas mass) distance
-unfolding ratesOf
-rate-at HC mass distance = refl
-rate-at CO mass distance = refl
-rate-at NOx mass distance = refl
-rate-at CO2 mass distance = refl
-
-weighted-at :
-    (gas : Gas) (w : Weights) (first second third : Gases) → endsAt gas (weightedGases w first second third) ≡ weightedOf w (endsAt gas first) (endsAt gas second) (endsAt gas third)
-unfolding weightedGases
-weighted-at HC w first second third = refl
-weighted-at CO w first second third = refl
-weighted-at NOx w first second third = refl
-weighted-at CO2 w first second third = refl
-
-nothing-at : (gas : Gas) → endsAt gas (noPart .rate) ≡ exactly (pos 0)
-nothing-at HC = refl
-nothing-at CO = refl
-nothing-at NOx = refl
-nothing-at CO2 = refl
 
 -- ---- a part
 module _ {t : Triple} {p : Part} (r : PartRanges t p (sidesOf p)) (d : 100 ≤ t .d) where

@@ -2,6 +2,7 @@ pub mod Coincide
 pub mod Unique
 pub mod Table
 pub mod Accepted
+pub mod Gases
 pub mod Stages
 pub mod Contained
 pub mod Verdicts

@@ -17,9 +17,10 @@ use Rattle.stage.specs.Test.{verdictOf}
 use Rattle.emission.specs.declared.TestResult.{TestResult}
 use Rattle.emission.specs.declared.Answer.the-variants.{Result}
 use Rattle.emission.specs.Test.{readingsIn, partsIn, verdictsOf, resultOf, testAnswer}
-use Rattle.claims.specs.Gas.{Gas, HC, CO, NOx, CO2, endsAt, limitAt, verdictAt}
+use Rattle.claims.specs.Gas.{Gas, limitAt}
 use Rattle.claims.specs.Statements.{Justified, JustifiedIn}
 use Rattle.claims.proofs.Accepted.{accepted-result}
+use Rattle.claims.proofs.Gases.{verdict-at}
 use Rattle.claims.proofs.Contained.{contained}
 
 -- a test that failed, strictly
@@ -58,13 +59,10 @@ module _ {e : Ends} {q : Fraction} (h : Between e q) (limit : ℕ) where
             only = λ l g. refl;
           }
 
--- what the definition says of four gases, it says of each
-verdict-at : (gas : Gas) (s : BagSheet) (r : TestResult) → r ≡ resultOf s (partsIn s (readingsIn s)) → verdictAt gas (r .verdicts) ≡ verdictOf (endsAt gas (r .weighted)) (limitAt gas (s .limits))
-unfolding resultOf verdictsOf
-verdict-at HC s r e = rw e
-verdict-at CO s r e = rw e
-verdict-at NOx s r e = rw e
-verdict-at CO2 s r e = rw e
+-- the verdicts of a result are those of its weighted ends
+verdicts-in : (s : BagSheet) (r : TestResult) → r ≡ resultOf s (partsIn s (readingsIn s)) → r .verdicts ≡ verdictsOf (r .weighted) (s .limits)
+unfolding resultOf
+verdicts-in s r e = rw e
 
 pub verdicts : (s : BagSheet) (r : TestResult) → testAnswer s ≡ Result r → (gas : Gas) → JustifiedIn s r gas
-verdicts s r e gas = rw (verdict-at gas s r (accepted-result e .result)) (justified (contained s r e .weighted gas) (limitAt gas (s .limits)))
+verdicts s r e gas = rw (verdicts-in s r (accepted-result e .result), verdict-at gas) (justified (contained s r e .weighted gas) (limitAt gas (s .limits)))
