@@ -14,3 +14,4 @@ pub mod Seconds
 pub mod Smoothing
 pub mod Finished
 pub mod Gears
+pub mod Widths

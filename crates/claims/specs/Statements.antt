@@ -1,15 +1,20 @@
 -- What is promised of a test that is answered with a result (demand 3), as records that the theorems of proofs/ give.
 use mathlib.Core.Path.{_≡_}
-use Prim.Native.Nat.{ℕ}
+use Prim.Native.Nat.{ℕ, _≤_}
 use lib.IntN.{pos, _*ℤ_}
 use lib.Signed.{_≤ℤ_, _<ℤ_}
 use Rattle.arith.specs.declared.Ends.{Ends}
 use Rattle.arith.specs.Fraction.{Fraction, Between}
+use Rattle.arith.specs.Fitting.{Sized}
+use Rattle.bag.specs.declared.Part.{Part}
+use Rattle.bag.specs.declared.Triple.{Triple}
 use Rattle.bag.specs.declared.BagSheet.{BagSheet}
 use Rattle.stage.specs.declared.Verdict.{Verdict}
 use Rattle.stage.specs.declared.Verdict.the-variants.{Pass, Fail, Undecided}
+use Rattle.stage.specs.Part.{qOf, concentrationOf}
+use Rattle.part.specs.Part.{readingsOf, gIn, volumeIn}
 use Rattle.emission.specs.declared.TestResult.{TestResult}
-use Rattle.claims.specs.Gas.{Gas, endsAt, limitAt, verdictAt}
+use Rattle.claims.specs.Gas.{Gas, NOx, among, endsAt, limitAt, verdictAt}
 use Rattle.claims.specs.Exact.{exactWeighted, exactFuel}
 
 -- each exact figure is between its two ends
@@ -33,3 +38,22 @@ pub record Justified (e : Ends) (q : Fraction) (limit : ℕ) (v : Verdict) : Typ
 
 abbrev pub JustifiedIn : BagSheet → TestResult → Gas → Type 0
 JustifiedIn s r gas = Justified (endsAt gas (r .weighted)) (exactWeighted gas s) (limitAt gas (s .limits)) (verdictAt gas (r .verdicts))
+
+-- ---- widths. "At least 1,000 m", "at most 200 cubic metres", and for NOx "within 256 ppm" of zero (docs/DECISIONS.md, Bags)
+abbrev pub concentrationIn : Gas → Triple → Part → Ends
+concentrationIn gas t p = concentrationOf (endsAt gas (readingsOf (p .bag))) (endsAt gas (readingsOf (p .air))) (gIn t (readingsOf (p .bag))) (qOf (t .d))
+
+pub record Ordinary (gas : Gas) (t : Triple) (p : Part) : Type 0 where
+  pub distance : 1000 ≤ p .distance
+  pub volume : volumeIn p .upper ≤ℤ pos 200000000
+  pub nox : gas ≡ NOx → Sized 1048576 (concentrationIn gas t p)
+
+-- each part of the class
+pub record OrdinaryTest (gas : Gas) (s : BagSheet) : Type 0 where
+  pub first : Ordinary gas (s .triple) (s .first)
+  pub second : Ordinary gas (s .triple) (s .second)
+  pub third : s .class ≡ 3 → Ordinary gas (s .triple) (s .third)
+
+-- how far apart the weighted ends are at most
+abbrev pub widthOf : Gas → ℕ
+widthOf gas = among gas 300 300 2000 300

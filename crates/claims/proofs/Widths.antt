@@ -1,0 +1,226 @@
+-- Demand 3, widths: where each part of the class covers at least 1,000 m and has at most 200 cubic metres, the weighted ends of HC, CO and CO2 are at
+-- most 300 apart, and those of NOx at most 2,000 where both ends of its concentration are within 256 ppm of zero. Assumes nothing.
+use mathlib.Core.Path.{_≡_, refl, ap}
+use mathlib.Core.Bool.{Bool, true, false, cond}
+use Prim.Native.Nat.{ℕ, suc, _+_, _*_, _≤_, _<_}
+use native.Mathlib.Nat.{mul-le-mul-right}
+use native.Mathlib.Omega.{arith}
+use lib.Dec.{eqb}
+use borrow.Author.Tests.{eqb-true}
+use lib.IntN.{ℤ, pos, negsuc, natAbs, _*ℤ_}
+use lib.Signed.{_≤ℤ_, _<ℤ_}
+use Rattle.arith.specs.declared.Ends.{Ends}
+use Rattle.arith.specs.Rounding.{divDown}
+use Rattle.arith.specs.Stages.{exactly, scaledBy, productOf, dividedBy}
+use Rattle.arith.specs.Fitting.{Sized, Narrow}
+use Rattle.arith.proofs.Parts.{zs, mul-parts}
+use Rattle.arith.proofs.Size.{abs-parts, wider-size, product-size, scaled-size, divided-size}
+use Rattle.arith.proofs.Width.{exactly-narrow, wider-narrow, sum-narrow, difference-narrow, scaled-narrow, product-narrow, divided-narrow}
+use Rattle.reading.specs.declared.Message.{Message}
+use Rattle.reading.specs.declared.Bag.{Bag}
+use Rattle.reading.specs.declared.Reading.{Reading}
+use Rattle.reading.specs.declared.Reading.the-variants.{Units, Unusable}
+use Rattle.reading.specs.Units.{unitsOf}
+use Rattle.reading.proofs.Usable.{usable}
+use Rattle.bag.specs.declared.Part.{Part}
+use Rattle.bag.specs.declared.Triple.{Triple}
+use Rattle.bag.specs.declared.BagSheet.{BagSheet}
+use Rattle.bag.specs.Sound.{Tested}
+use Rattle.bag.proofs.Sound.{accepted-sound}
+use Rattle.stage.specs.declared.Weights.{Weights}
+use Rattle.stage.specs.Combination.{combinationOf}
+use Rattle.stage.specs.Part.{gtr, kelvinOf, volumeOf, gOf, qOf, concentrationOf, gasVolumeOf, massOf, khOf, noxMassOf, rateOf}
+use Rattle.stage.specs.Test.{weightsOf, weightedOf}
+use Rattle.stage.specs.Ranges.{UpTo, largestReading, largestConcentration}
+use Rattle.stage.proofs.Sizes.{kelvin-least, concentration-size, vapour-most, divisor-least, kh-size, weights-whole}
+use Rattle.part.specs.Part.{endsOf, readingsOf, sidesOf, gIn, volumeIn, gasMass, massesOf, correctedFor, massIn, partOf}
+use Rattle.part.specs.Room.{PartRanges}
+use Rattle.part.proofs.Sizes.{readings-sizes, volume-ranges, masses-ranges, kh-ranges}
+use Rattle.emission.specs.declared.TestResult.{TestResult}
+use Rattle.emission.specs.declared.Answer.the-variants.{Result}
+use Rattle.emission.specs.Test.{readingsIn, noPart, thirdPart, partsIn, resultOf, testAnswer}
+use Rattle.emission.specs.Room.{PartsRanges}
+use Rattle.emission.proofs.Ranges.{parts-ranges}
+use Rattle.claims.specs.Gas.{Gas, HC, CO, NOx, CO2, among, endsAt, densityAt}
+use Rattle.claims.specs.Statements.{concentrationIn, Ordinary, OrdinaryTest, widthOf}
+use Rattle.claims.proofs.Accepted.{accepted-result}
+use Rattle.claims.proofs.Gases.{rate-at, weighted-at, nothing-at}
+
+-- ---- exact numbers: what is made of them without a rounding has both ends the same
+own-size : (e : Ends) → Sized (natAbs (e .lower) + natAbs (e .upper)) e
+own-size e = record { lower = omega arith; upper = omega arith }
+
+scaled-exact : {a : Ends} (k : ℤ) → Narrow 0 a → Narrow 0 (scaledBy k a)
+scaled-exact k h = wider-narrow (omega arith) (scaled-narrow {m = natAbs k} k (omega arith) h)
+
+product-exact : {a b : Ends} → Narrow 0 a → Narrow 0 b → Narrow 0 (productOf a b)
+product-exact {a} {b} h k = wider-narrow (omega arith) (product-narrow (own-size a) (own-size b) h k)
+
+-- divided once, they are one apart
+quotient-narrow : {a : Ends} (d : ℤ) → pos 0 <ℤ d → Narrow 0 a → Narrow 1 (dividedBy a d)
+quotient-narrow (pos d) p h = divided-narrow {q = 0} d (omega zs) (wider-narrow (omega arith) h)
+quotient-narrow (negsuc d) p h = absurd (p .lt)
+
+reading-narrow : (message : Message) → Narrow 0 (endsOf (unitsOf message))
+reading-narrow message = go (unitsOf message) refl
+  where
+    go : (r : Reading) → unitsOf message ≡ r → Narrow 0 (endsOf r)
+    go (Units ends) e = let u = usable message e in rw (u .exact) (exactly-narrow (pos (u .units)))
+    go Unusable e = exactly-narrow (pos 0)
+
+reading-narrow-at : (gas : Gas) (bag : Bag) → Narrow 0 (endsAt gas (readingsOf bag))
+unfolding readingsOf
+reading-narrow-at HC bag = reading-narrow (bag .hc)
+reading-narrow-at CO bag = reading-narrow (bag .co)
+reading-narrow-at NOx bag = reading-narrow (bag .nox)
+reading-narrow-at CO2 bag = reading-narrow (bag .co2)
+
+-- ---- one law a stage
+combination-narrow : {w : ℕ} {a b c : Ends} (j k l : ℕ) → Narrow w a → Narrow w b → Narrow w c → Narrow (j * w + k * w + l * w) (combinationOf j a k b l c)
+unfolding combinationOf
+combination-narrow j k l a b c =
+    sum-narrow (sum-narrow (scaled-narrow {m = j} (pos j) (omega arith) a) (scaled-narrow {m = k} (pos k) (omega arith) b)) (scaled-narrow {m = l} (pos l) (omega arith) c)
+
+concentration-narrow : {bag air g : Ends} (q : ℕ) → 0 < q → Narrow 0 bag → Narrow 0 air → Narrow 0 g → Narrow 1 (concentrationOf bag air g q)
+unfolding concentrationOf
+concentration-narrow q h bag air g =
+    quotient-narrow (pos q) (omega zs)
+    (scaled-exact (pos 16) (difference-narrow (scaled-exact (pos q) bag) (product-exact air (difference-narrow (exactly-narrow (pos q)) g))))
+
+gas-volume-narrow :
+    {volume concentration : Ends} (c w : ℕ) → 200000000 + c ≤ 4096000 * w → Sized 200000000 volume → Sized c concentration → Narrow 1 volume → Narrow 1 concentration → Narrow (suc w) (gasVolumeOf volume concentration)
+unfolding gasVolumeOf
+gas-volume-narrow c w room sv sc v k = divided-narrow 4096000 (omega arith) (wider-narrow (omega arith) (product-narrow sv sc v k))
+
+mass-narrow : {gas : Ends} (density w v : ℕ) → density ≤ 2100000 → 2100000 * w ≤ 1000000 * v → Narrow w gas → Narrow (suc v) (massOf gas density)
+unfolding massOf
+mass-narrow density w v h room n = divided-narrow 1000000 (omega arith) (wider-narrow room (scaled-narrow (pos density) h n))
+
+rate-narrow : {w : ℕ} {mass : Ends} (distance : ℕ) → 1000 ≤ distance → Narrow w mass → Narrow (suc w) (rateOf mass distance)
+unfolding rateOf
+rate-narrow {w} distance h n =
+    divided-narrow distance (omega arith) (wider-narrow (mul-le-mul-right w h) (scaled-narrow {m = 1000} (pos 1000) (omega arith) n))
+
+weighted-narrow :
+    {w : ℕ} {first second third : Ends} (weights : Weights) → weights .first + weights .second + weights .third ≡ 100 → Narrow w first → Narrow w second → Narrow w third → Narrow (suc w) (weightedOf weights first second third)
+unfolding weightedOf
+weighted-narrow {w} weights e a b c =
+    let f : (weights .first + weights .second + weights .third) * w ≡ 100 * w = ap (λ (n : ℕ). n * w) e in
+    divided-narrow 100 (omega arith) (wider-narrow (omega arith) (combination-narrow (weights .first) (weights .second) (weights .third) a b c))
+
+-- ---- a part
+reading-at : (gas : Gas) (bag : Bag) → UpTo largestReading (endsAt gas (readingsOf bag))
+reading-at HC bag = readings-sizes bag .hc
+reading-at CO bag = readings-sizes bag .co
+reading-at NOx bag = readings-sizes bag .nox
+reading-at CO2 bag = readings-sizes bag .co2
+
+-- of the mass of each gas
+abbrev massWidth : Gas → ℕ
+massWidth gas = among gas 245 245 1941 245
+
+module _ {t : Triple} {p : Part} (r : PartRanges t p (sidesOf p)) (d : 100 ≤ t .d) where
+  volume-narrow : Narrow 1 (volumeIn p)
+  unfolding volumeOf
+  volume-narrow =
+      let warm = kelvin-least (volume-ranges r) in
+      quotient-narrow (pos 101325 *ℤ kelvinOf gtr (p .temperature)) (omega (zs, mul-parts (pos 101325) (kelvinOf gtr (p .temperature)))) (exactly-narrow _)
+
+  -- a volume is not negative
+  volume-least : pos 0 ≤ℤ volumeIn p .lower
+  unfolding volumeOf dividedBy divDown exactly
+  volume-least = omega zs
+
+  volume-sized : volumeIn p .upper ≤ℤ pos 200000000 → Sized 200000000 (volumeIn p)
+  volume-sized h =
+      let o = volume-narrow .ordered in
+      let l = volume-least in
+      record { lower = omega (zs, abs-parts (volumeIn p .lower)); upper = omega (zs, abs-parts (volumeIn p .upper)) }
+
+  concentration-narrow-in : (gas : Gas) → Narrow 1 (concentrationIn gas t p)
+  unfolding gOf
+  concentration-narrow-in gas =
+      let b = reading-narrow-at in
+      concentration-narrow (qOf (t .d)) (omega arith) (b gas (p .bag)) (b gas (p .air))
+      (wider-narrow (omega arith) (combination-narrow 10 (t .wc) (t .wh) (b CO2 (p .bag)) (b CO (p .bag)) (b HC (p .bag))))
+
+  density-at : (gas : Gas) → densityAt gas (p .density) ≤ 2100000
+  density-at HC = r .ranged .hcDensity .1
+  density-at CO = r .ranged .coDensity .1
+  density-at NOx = r .ranged .noxDensity .1
+  density-at CO2 = r .ranged .co2Density .1
+
+  concentration-sized : (gas : Gas) → Sized largestConcentration (concentrationIn gas t p)
+  concentration-sized gas =
+      let m = masses-ranges r in
+      concentration-size (record { bag-reading = reading-at gas (p .bag); air-reading = reading-at gas (p .air); g-range = m .g-range; good = m .good; q-most = m .q-most })
+
+  -- 200,000,000 + 268,435,456 is at most 4,096,000 x 115, and 2,100,000 x 116 at most 1,000,000 x 244
+  dry-mass : (gas : Gas) → Ordinary gas t p →
+      Narrow 245 (gasMass (volumeIn p) (endsAt gas (readingsOf (p .bag))) (endsAt gas (readingsOf (p .air))) (gIn t (readingsOf (p .bag))) (qOf (t .d)) (densityAt gas (p .density)))
+  unfolding gasMass
+  dry-mass gas o =
+      mass-narrow (densityAt gas (p .density)) 116 244 (density-at gas) (omega arith)
+      (gas-volume-narrow largestConcentration 115 (omega arith) (volume-sized (o .volume)) (concentration-sized gas) volume-narrow (concentration-narrow-in gas))
+
+  kh-narrow : Narrow 1 (khOf (p .humidity) (p .saturation) (p .barometer))
+  unfolding khOf
+  kh-narrow =
+      let k = kh-ranges r in
+      let least = divisor-least k in
+      let room = vapour-most (k .ranges) in
+      let low = k .ranges .low in
+      quotient-narrow _ (omega zs) (exactly-narrow _)
+
+  -- within 256 ppm of zero the gas volume is at most 51,200,000 and its ends 51 apart, the mass 107,520,000 and 109 apart; and
+  -- 107,520,000 + 179,536 x 109 is at most 65,536 x 1,940
+  nox-mass : Ordinary NOx t p → Narrow 1941 (endsAt NOx (massIn t p (sidesOf p)))
+  unfolding massIn massesOf correctedFor noxMassOf gasMass massOf gasVolumeOf
+  nox-mass o =
+      let v = volume-sized (o .volume) in
+      let c = o .nox refl in
+      let gas-size = divided-size {q = 51200000} 4096000 (omega arith) (wider-size (omega arith) (product-size v c)) in
+      let mass-size = divided-size {q = 107520000} 1000000 (omega arith) (wider-size (omega arith) (scaled-size (pos (p .density .nox)) (density-at NOx) gas-size)) in
+      let mass = mass-narrow (p .density .nox) 51 108 (density-at NOx) (omega arith) (gas-volume-narrow 1048576 50 (omega arith) v c volume-narrow (concentration-narrow-in NOx)) in
+      divided-narrow {q = 1940} 65536 (omega arith) (wider-narrow (omega arith) (product-narrow mass-size (kh-size (kh-ranges r)) mass kh-narrow))
+
+  mass-in : (gas : Gas) → Ordinary gas t p → Narrow (massWidth gas) (endsAt gas (massIn t p (sidesOf p)))
+  unfolding massIn massesOf correctedFor
+  mass-in HC o = dry-mass HC o
+  mass-in CO o = dry-mass CO o
+  mass-in NOx o = nox-mass o
+  mass-in CO2 o = dry-mass CO2 o
+
+  rate-in : (gas : Gas) → Ordinary gas t p → Narrow (suc (massWidth gas)) (endsAt gas (partOf t p (sidesOf p) .rate))
+  unfolding partOf
+  rate-in gas o = rw (rate-at gas) (rate-narrow (p .distance) (o .distance) (mass-in gas o))
+
+-- ---- the test
+module _ {s : BagSheet} (t : Tested s) (r : PartsRanges s (readingsIn s)) where
+  third-in : (gas : Gas) → OrdinaryTest gas s → Narrow (suc (massWidth gas)) (endsAt gas (thirdPart s (sidesOf (s .third)) .rate))
+  unfolding thirdPart
+  third-in gas o = go (eqb (s .class) 3) (eqb-true (s .class) 3)
+    where
+      go : (b : Bool) → (b ≡ true → s .class ≡ 3) → Narrow (suc (massWidth gas)) (endsAt gas (cond b (partOf (s .triple) (s .third) (sidesOf (s .third))) noPart .rate))
+      go true f = rate-in (r .third (f refl)) (t .d .0) gas (o .third (f refl))
+      go false f = rw (nothing-at gas) (wider-narrow (omega arith) (exactly-narrow (pos 0)))
+
+  weighted-in : (gas : Gas) → OrdinaryTest gas s → Narrow (suc (suc (massWidth gas))) (endsAt gas (resultOf s (partsIn s (readingsIn s)) .weighted))
+  unfolding resultOf partsIn
+  weighted-in gas o =
+      rw (weighted-at gas)
+      (weighted-narrow (weightsOf (s .class)) (weights-whole (s .class) (t .class .0) (t .class .1))
+      (rate-in (r .first) (t .d .0) gas (o .first)) (rate-in (r .second) (t .d .0) gas (o .second)) (third-in gas o))
+
+-- each stage after the mass adds one
+room : (gas : Gas) → suc (suc (massWidth gas)) ≤ widthOf gas
+room HC = omega arith
+room CO = omega arith
+room NOx = omega arith
+room CO2 = omega arith
+
+pub widths : (s : BagSheet) (r : TestResult) → testAnswer s ≡ Result r → (gas : Gas) → OrdinaryTest gas s → Narrow (widthOf gas) (endsAt gas (r .weighted))
+widths s r e gas o =
+    let a = accepted-result e in
+    let sound = accepted-sound s (a .sheet) in
+    rw (a .result) (wider-narrow (room gas) (weighted-in (sound .tested) (parts-ranges sound (a .late)) gas o))
