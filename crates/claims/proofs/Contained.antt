@@ -86,7 +86,6 @@ module _ {s : BagSheet} (t : Tested s) (r : PartsRanges s (readingsIn s)) where
       let f = s .fuel in
       fuel-holds (f .k) (f .hc) (f .co) (f .co2) (f .density) (omega (arith, t .fuelDensity .0)) (weighted-in HC) (weighted-in CO) (weighted-in CO2)
 
--- the function's contract gives the answer `testAnswer s`
 pub contained : (s : BagSheet) (r : TestResult) → testAnswer s ≡ Result r → Contained s r
 contained s r e =
     let a = accepted-result e in

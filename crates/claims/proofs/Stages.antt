@@ -14,7 +14,7 @@ use Rattle.reading.specs.declared.Message.{Message}
 use Rattle.reading.specs.declared.Reading.{Reading}
 use Rattle.reading.specs.declared.Reading.the-variants.{Units, Unusable}
 use Rattle.reading.specs.Units.{unitsOf}
-use Rattle.reading.proofs.Usable.{usable}
+use Rattle.reading.proofs.Usable.{Usable, usable}
 use Rattle.stage.specs.declared.Weights.{Weights}
 use Rattle.stage.specs.Combination.{combinationOf}
 use Rattle.stage.specs.Part.{gtr, kelvinOf, volumeOf, concentrationOf, gasVolumeOf, massOf, vapourOf, dryOf, khOf, noxMassOf, rateOf}
@@ -25,14 +25,17 @@ use Rattle.bag.specs.declared.Part.{Part}
 use Rattle.part.specs.Part.{endsOf, volumeIn}
 use Rattle.claims.specs.Exact.{count, decimal, units, exactVolume, exactH, exactKh}
 
--- ---- readings
+-- ---- readings: one number each, usable or not
+pub reading-number : (message : Message) → Usable (endsOf (unitsOf message))
+reading-number message = go (unitsOf message) refl
+  where
+    go : (r : Reading) → unitsOf message ≡ r → Usable (endsOf r)
+    go (Units ends) e = usable message e
+    go Unusable e = record { units = 0; limit = omega arith; exact = refl }
+
 pub reading-holds : (message : Message) → Between (endsOf (unitsOf message)) (units message)
 unfolding exactly
-reading-holds message = go (unitsOf message) refl
-  where
-    go : (r : Reading) → unitsOf message ≡ r → Between (endsOf r) (whole (endsOf r .lower))
-    go (Units ends) e = let u = usable message e in rw (u .exact) (exactly-holds (pos (u .units)))
-    go Unusable e = exactly-holds (pos 0)
+reading-holds message = let u = reading-number message in rw (u .exact) (exactly-holds (pos (u .units)))
 
 -- ---- fractions of naturals
 abbrev ratio : ℕ → ℕ → Fraction

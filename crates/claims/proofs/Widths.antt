@@ -18,10 +18,7 @@ use Rattle.arith.proofs.Size.{abs-parts, wider-size, product-size, scaled-size,
 use Rattle.arith.proofs.Width.{exactly-narrow, wider-narrow, sum-narrow, difference-narrow, scaled-narrow, product-narrow, divided-narrow}
 use Rattle.reading.specs.declared.Message.{Message}
 use Rattle.reading.specs.declared.Bag.{Bag}
-use Rattle.reading.specs.declared.Reading.{Reading}
-use Rattle.reading.specs.declared.Reading.the-variants.{Units, Unusable}
 use Rattle.reading.specs.Units.{unitsOf}
-use Rattle.reading.proofs.Usable.{usable}
 use Rattle.bag.specs.declared.Part.{Part}
 use Rattle.bag.specs.declared.Triple.{Triple}
 use Rattle.bag.specs.declared.BagSheet.{BagSheet}
@@ -45,6 +42,7 @@ use Rattle.claims.specs.Gas.{Gas, HC, CO, NOx, CO2, among, endsAt, densi
 use Rattle.claims.specs.Statements.{concentrationIn, Ordinary, OrdinaryTest, widthOf}
 use Rattle.claims.proofs.Accepted.{accepted-result}
 use Rattle.claims.proofs.Gases.{rate-at, weighted-at, nothing-at}
+use Rattle.claims.proofs.Stages.{reading-number}
 
 -- ---- exact numbers: what is made of them without a rounding has both ends the same
 own-size : (e : Ends) → Sized (natAbs (e .lower) + natAbs (e .upper)) e
@@ -62,11 +60,7 @@ quotient-narrow (pos d) p h = divided-narrow {q = 0} d (omega zs) (wider-narrow 
 quotient-narrow (negsuc d) p h = absurd (p .lt)
 
 reading-narrow : (message : Message) → Narrow 0 (endsOf (unitsOf message))
-reading-narrow message = go (unitsOf message) refl
-  where
-    go : (r : Reading) → unitsOf message ≡ r → Narrow 0 (endsOf r)
-    go (Units ends) e = let u = usable message e in rw (u .exact) (exactly-narrow (pos (u .units)))
-    go Unusable e = exactly-narrow (pos 0)
+reading-narrow message = let u = reading-number message in rw (u .exact) (exactly-narrow (pos (u .units)))
 
 reading-narrow-at : (gas : Gas) (bag : Bag) → Narrow 0 (endsAt gas (readingsOf bag))
 unfolding readingsOf

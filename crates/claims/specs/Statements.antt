@@ -1,4 +1,5 @@
--- What is promised of a test that is answered with a result (demand 3), as records that the theorems of proofs/ give.
+-- What is promised of every test that is answered with a result (demand 3). The theorems are `contained`, `verdicts` and `widths` of proofs/, each
+-- for every sheet s and result r with testAnswer s ≡ Result r, which is what the contract of the function `test` says of its answer.
 use mathlib.Core.Path.{_≡_}
 use Prim.Native.Nat.{ℕ, _≤_}
 use lib.IntN.{pos, _*ℤ_}
