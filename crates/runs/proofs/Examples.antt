@@ -1,4 +1,5 @@
--- Short rows, computed by the definitions themselves: each shows one correction of 01, or one of its exceptions. Assumes nothing.
+-- Short rows, computed by the definitions themselves: each shows one correction of 01, or one of its exceptions. The two rows that 01 marks stand in
+-- the list of known figures (crate claims). Assumes nothing.
 use mathlib.Core.Path.{_≡_, refl}
 use mathlib.Core.List.{List, [], _∷_}
 use Prim.Native.Nat.{ℕ, zero, suc, _+_}
@@ -96,15 +97,6 @@ one-step-down = refl
 one-step-after-a-stop : Takes (passBy OneStep) (halt ∷ up ∷ []) (1 ∷ 4 ∷ []) (1 ∷ 2 ∷ [])
 unfolding ruled
 one-step-after-a-stop = refl
-
--- 6: the two marked figures of 01, Known figures
-pub run-of-three : Takes smoothed (cruises 5) (2 ∷ 3 ∷ 3 ∷ 3 ∷ 2 ∷ []) (2 ∷ 2 ∷ 2 ∷ 2 ∷ 2 ∷ [])
-unfolding smoothed smooth rowAfter runJudged nextAfter runNext takes
-run-of-three = refl
-
-pub run-of-five : Takes smoothed (cruises 7) (2 ∷ 3 ∷ 3 ∷ 3 ∷ 3 ∷ 3 ∷ 2 ∷ []) (2 ∷ 3 ∷ 3 ∷ 3 ∷ 3 ∷ 3 ∷ 2 ∷ [])
-unfolding smoothed smooth rowAfter runJudged nextAfter runNext takes
-run-of-five = refl
 
 -- 6: 3 4 3 becomes one run, which counts as judged: it does not take the 2 beside it
 merged-run : Takes smoothed (cruises 5) (2 ∷ 3 ∷ 4 ∷ 3 ∷ 2 ∷ []) (2 ∷ 3 ∷ 3 ∷ 3 ∷ 2 ∷ [])
