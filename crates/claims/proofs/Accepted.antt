@@ -16,6 +16,7 @@ handed : {r : TestResult} (j : Judged) (next : Answer) → handUp j next ≡ Res
 handed Accepted next e = (refl, e)
 handed (Refused refusal) next e = absurd (let z : _≡_ {A = ℕ} 0 1 = cc in let no : ⊥ = omega arith in no)
 
+-- the sheet was accepted, and so were dilution and humidity
 pub record AcceptedResult (s : BagSheet) (r : TestResult) : Type 0 where
   pub sheet : judgeSheet s ≡ Accepted
   pub late : judgeLate s (readingsIn s) ≡ Accepted
