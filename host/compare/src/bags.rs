@@ -2,7 +2,7 @@
 
 use std::fmt;
 
-use plain::bags::Message;
+use plain::bags::{Figure, Message};
 use ylhovesko::bags::{Ends, Fuel, Gases, Part, Reading, Sheet, Triple, Verdict};
 
 use crate::random::Random;
@@ -101,61 +101,63 @@ fn read_sheet(words: &mut Words) -> Sheet {
     }
 }
 
+/// A figure's ends.
+type Pair = (i128, i128);
+
+/// The figures in the order of [`Answer`]; a part is its volume, its masses and its rates.
+fn in_order(weighted: [Pair; 4], verdicts: [i128; 4], fuel: Pair, parts: impl Iterator<Item = (Pair, [Pair; 4], [Pair; 4])>) -> Vec<i128> {
+    let mut figures: Vec<i128> = weighted.into_iter().zip(verdicts).flat_map(|((lower, upper), verdict)| [lower, upper, verdict]).collect();
+    let mut put = |(lower, upper): Pair| figures.extend([lower, upper]);
+    put(fuel);
+    for (volume, mass, rate) in parts {
+        put(volume);
+        for gas in 0..4 {
+            put(mass[gas]);
+            put(rate[gas]);
+        }
+    }
+    figures
+}
+
 /// What the proved core says.
 pub fn by_core(sheet: &Sheet) -> Answer {
-    let told = ylhovesko::bags::result(*sheet);
-    let mut figures = Vec::new();
-    let Ok(result) = told else {
-        return (core_told(told.map(|_| ())), figures);
+    let result = match ylhovesko::bags::result(*sheet) {
+        Ok(result) => result,
+        Err(refusal) => return (core_told(Err(refusal)), Vec::new()),
     };
-    let mut put = |ends: Ends| figures.extend([i128::from(ends.lower), i128::from(ends.upper)]);
+    let (parts, rest) = result.parts.split_at(if sheet.class == 3 { 3 } else { 2 });
+    assert!(rest.iter().all(|part| *part == Default::default()), "a part that the class does not have");
+    let pair = |ends: Ends| (i128::from(ends.lower), i128::from(ends.upper));
+    let pairs = |gases: Gases<Ends>| gases.each().map(pair);
     let verdicts = result.verdicts.each().map(|verdict| match verdict {
         Verdict::Pass => 0,
         Verdict::Fail => 1,
         Verdict::Undecided => 2,
     });
-    let parts = if sheet.class == 3 { 3 } else { 2 };
-    result.weighted.each().into_iter().for_each(&mut put);
-    put(result.fuel);
-    for part in &result.parts[..parts] {
-        put(part.volume);
-        part.mass.each().into_iter().zip(part.rate.each()).for_each(|(mass, rate)| {
-            put(mass);
-            put(rate);
-        });
-    }
-    for (gas, verdict) in (0..).zip(verdicts) {
-        figures.insert(3 * gas + 2, verdict);
-    }
-    assert!(result.parts[parts..].iter().all(|part| *part == Default::default()), "a part that the class does not have");
-    ([0; 4], figures)
+    let parts = parts.iter().map(|part| (pair(part.volume), pairs(part.mass), pairs(part.rate)));
+    (core_told(Ok(())), in_order(pairs(result.weighted), verdicts, pair(result.fuel), parts))
 }
 
 /// What the second implementation says, and whether each exact figure lies between its ends.
 pub fn by_plain(sheet: &Sheet) -> (Answer, bool) {
-    let told = plain::bags::test(&plain_sheet(sheet));
-    let mut figures = Vec::new();
-    let Ok(result) = told else {
-        return ((plain_told(told.map(|_| ())), figures), true);
+    let result = match plain::bags::test(&plain_sheet(sheet)) {
+        Ok(result) => result,
+        Err(refusal) => return ((plain_told(Err(refusal)), Vec::new()), true),
     };
     let mut holds = true;
-    let mut put = |figure: &plain::bags::Figure| {
-        figures.extend([figure.lower, figure.upper]);
+    let mut pair = |figure: Figure| {
         holds &= figure.exact.between(figure.lower, figure.upper);
+        (figure.lower, figure.upper)
     };
-    result.weighted.iter().for_each(&mut put);
-    put(&result.fuel);
-    for part in &result.parts {
-        put(&part.volume);
-        part.mass.iter().zip(&part.rate).for_each(|(mass, rate)| {
-            put(mass);
-            put(rate);
-        });
-    }
-    for (gas, verdict) in (0..).zip(result.verdicts) {
-        figures.insert(3 * gas + 2, verdict as i128);
-    }
-    (([0; 4], figures), holds)
+    let verdicts = result.verdicts.map(|verdict| match verdict {
+        plain::bags::Verdict::Pass => 0,
+        plain::bags::Verdict::Fail => 1,
+        plain::bags::Verdict::Undecided => 2,
+    });
+    let (weighted, fuel) = (result.weighted.map(&mut pair), pair(result.fuel));
+    let parts = result.parts.iter().map(|part| (pair(part.volume), part.mass.map(&mut pair), part.rate.map(&mut pair)));
+    let figures = in_order(weighted, verdicts, fuel, parts);
+    ((plain_told(Ok(())), figures), holds)
 }
 
 fn plain_message(reading: Reading) -> Message {
