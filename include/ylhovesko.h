@@ -110,6 +110,30 @@ typedef struct {
     ylhovesko_reading co2;
 } ylhovesko_bag;
 
+/* Densities at the reference state: mg per cubic metre, 1 to 2,100,000 each. */
+typedef struct {
+    uint32_t hc;
+    uint32_t co;
+    uint32_t nox;
+    uint32_t co2;
+} ylhovesko_densities;
+
+/* The dilution triple, in tenths. */
+typedef struct {
+    uint32_t d;  /* 100 to 200 */
+    uint32_t wc; /* 0 to 20 */
+    uint32_t wh; /* 0 to 20 */
+} ylhovesko_triple;
+
+/* The fuel sheet. */
+typedef struct {
+    uint32_t k;       /* in 1/10,000, 1 to 1,500 */
+    uint32_t hc;      /* the carbon factors in 1/1,000, 0 to 1,000 each */
+    uint32_t co;
+    uint32_t co2;
+    uint32_t density; /* g/l, 600 to 1,000 */
+} ylhovesko_fuel;
+
 /* A part of the bag sheet: the fields 1 to 9 of refusal 11, in this order, and its readings. */
 typedef struct {
     uint32_t pump;        /* ml a revolution, 100 to 20,000 */
@@ -120,12 +144,7 @@ typedef struct {
     uint32_t humidity;    /* 0.1 percent, 0 to 1,000 */
     uint32_t saturation;  /* saturation pressure in Pa, 0 to 12,000 */
     uint32_t distance;    /* m, 100 to 100,000 */
-    struct {
-        uint32_t hc;
-        uint32_t co;
-        uint32_t nox;
-        uint32_t co2;
-    } density; /* mg per cubic metre, 1 to 2,100,000 each */
+    ylhovesko_densities density;
     ylhovesko_bag bag;
     ylhovesko_bag air;
 } ylhovesko_part;
@@ -134,18 +153,8 @@ typedef struct {
 typedef struct {
     uint32_t class_number; /* 1 to 3 */
     uint32_t parts;        /* how many are given: 2 for the classes 1 and 2, 3 for class 3 */
-    struct {
-        uint32_t d;  /* 100 to 200 */
-        uint32_t wc; /* 0 to 20 */
-        uint32_t wh; /* 0 to 20 */
-    } triple;        /* field 10: the dilution triple, in tenths */
-    struct {
-        uint32_t k;       /* in 1/10,000, 1 to 1,500 */
-        uint32_t hc;      /* the carbon factors in 1/1,000, 0 to 1,000 each */
-        uint32_t co;
-        uint32_t co2;
-        uint32_t density; /* g/l, 600 to 1,000 */
-    } fuel;               /* field 11 */
+    ylhovesko_triple triple; /* field 10 */
+    ylhovesko_fuel fuel;     /* field 11 */
     struct {
         uint64_t hc;
         uint64_t co;
@@ -202,6 +211,20 @@ typedef struct {
  *     if (r.outcome.number == 0 && r.verdict.nox == YLHOVESKO_FAIL) puts("too much NOx");
  */
 ylhovesko_test_result ylhovesko_result(ylhovesko_bag_sheet sheet);
+
+/* What a fuel brings to the bag sheet: the densities of every part, the triple and the fuel sheet. */
+typedef struct {
+    ylhovesko_densities density;
+    ylhovesko_triple triple;
+    ylhovesko_fuel fuel;
+} ylhovesko_preset;
+
+/*
+ * The fuels of the regulation. The density of the test fuel in g/l is measured; it is not judged here but with the bag sheet. Diesel's triple has
+ * 133 tenths, the nearest to the regulation's 13.28.
+ */
+ylhovesko_preset ylhovesko_petrol(uint32_t fuel_density);
+ylhovesko_preset ylhovesko_diesel(uint32_t fuel_density);
 
 #ifdef __cplusplus
 }

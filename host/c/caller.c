@@ -31,10 +31,21 @@ static ylhovesko_bag_sheet bag_sheet(void)
     const ylhovesko_reading one_percent = {YLHOVESKO_PERCENT, 0x3f800000};
     const ylhovesko_bag air = {none, none, none, none};
     const ylhovesko_bag bag = {none, none, none, one_percent};
-    const ylhovesko_part part = {1000, 50000, 101300, 0, 0, 0, 0, 1000, {577000, 1160000, 1910000, 1830000}, bag, air};
-    const ylhovesko_bag_sheet sheet = {1, 2, {134, 10, 10}, {1155, 866, 429, 273, 750}, {0, 0, 0, 0}, {part, part, part}};
+    const ylhovesko_preset petrol = ylhovesko_petrol(750);
+    const ylhovesko_part part = {1000, 50000, 101300, 0, 0, 0, 0, 1000, petrol.density, bag, air};
+    const ylhovesko_bag_sheet sheet = {1, 2, petrol.triple, petrol.fuel, {0, 0, 0, 0}, {part, part, part}};
 
     return sheet;
+}
+
+static void presets(void)
+{
+    const ylhovesko_preset petrol = {{577000, 1160000, 1910000, 1830000}, {134, 10, 10}, {1155, 866, 429, 273, 750}};
+    const ylhovesko_preset diesel = {{579000, 1160000, 1910000, 1830000}, {133, 10, 10}, {1160, 862, 429, 273, 840}};
+    const ylhovesko_preset told[] = {ylhovesko_petrol(750), ylhovesko_diesel(840)};
+
+    expect("petrol", memcmp(&told[0], &petrol, sizeof petrol) == 0);
+    expect("diesel", memcmp(&told[1], &diesel, sizeof diesel) == 0);
 }
 
 static void emission(void)
@@ -96,6 +107,7 @@ int main(void)
     expect("switch on", ylhovesko_chosen(normal, sizeof normal, normal, sizeof normal, true) == YLHOVESKO_REDUCED);
     expect("none chosen", ylhovesko_chosen(normal, sizeof normal, reduced, sizeof reduced, true) == YLHOVESKO_NEITHER);
 
+    presets();
     emission();
 
     if (!wrong)

@@ -6,6 +6,7 @@
  *   'p' normal, reduced                 ->  outcome
  *   'c' normal, reduced, switch (1 byte) -> which one (32 bits)
  *   'r' bag sheet                       ->  result
+ *   'f' diesel (1 byte), density (32 bits) -> preset
  *
  * where a slice is its length (64 bits) and its bytes.
  */
@@ -81,6 +82,18 @@ static int result(void)
     return give(&r, sizeof r);
 }
 
+static int preset(void)
+{
+    uint8_t diesel;
+    uint32_t density;
+    ylhovesko_preset p;
+
+    if (!take(&diesel, 1) || !take(&density, sizeof density))
+        return 0;
+    p = diesel ? ylhovesko_diesel(density) : ylhovesko_petrol(density);
+    return give(&p, sizeof p);
+}
+
 static int answer(int call)
 {
     switch (call) {
@@ -92,6 +105,8 @@ static int answer(int call)
         return chosen();
     case 'r':
         return result();
+    case 'f':
+        return preset();
     default:
         return 0;
     }

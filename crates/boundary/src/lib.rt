@@ -13,6 +13,7 @@ use emission::Parts;
 use emission::TestResult;
 use emission::Verdicts;
 use part::Gases;
+use preset::Preset;
 use reading::Bag;
 use reading::Message;
 use refusal::Judged;
@@ -24,6 +25,7 @@ ghost use Rattle.trace.specs.Judging.{judgePair};
 ghost use Rattle.gear.specs.Sheet.{gearAnswer, gearBuffer};
 ghost use Rattle.emission.specs.declared.Answer.the-variants.{Result};
 ghost use Rattle.emission.specs.Test.{testAnswer};
+ghost use Rattle.preset.specs.Preset.{petrolOf, dieselOf};
 ghost use Rattle.boundary.specs.Outcome.{outcomeOf, chosenOf};
 ghost use Rattle.boundary.specs.Sheet.{messageOf, bagOf, sheetPartOf, sheetOf, verdictNumber, verdictNumbers, withNothing, resultOut};
 
@@ -292,4 +294,19 @@ pub extern "C" fn ylhovesko_result(sheet: Sheet) -> TestOutcome
     ensures { λ r. ⌜ r ≡ resultOut (testAnswer (sheetOf sheet)) ⌝ }
 {
     result_out(emission::test(sheet_of(sheet)))
+}
+
+// What petrol, or diesel, brings to the bag sheet, with the density of the test fuel in g/l.
+#[no_mangle]
+pub extern "C" fn ylhovesko_petrol(fuel_density: u32) -> Preset
+    ensures { λ r. ⌜ r ≡ petrolOf «fuel_density» ⌝ }
+{
+    preset::petrol(fuel_density)
+}
+
+#[no_mangle]
+pub extern "C" fn ylhovesko_diesel(fuel_density: u32) -> Preset
+    ensures { λ r. ⌜ r ≡ dieselOf «fuel_density» ⌝ }
+{
+    preset::diesel(fuel_density)
 }

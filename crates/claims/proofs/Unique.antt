@@ -130,6 +130,10 @@ use Rattle.boundary.proofs.ylhovesko_chosen.Reads as boundary-ylhovesko-chosen
 use Rattle.boundary.proofs.ylhovesko_chosen.Kinds as boundary-ylhovesko-chosen-kinds
 use Rattle.boundary.proofs.ylhovesko_result.Reads as boundary-ylhovesko-result
 use Rattle.boundary.proofs.ylhovesko_result.Kinds as boundary-ylhovesko-result-kinds
+use Rattle.boundary.proofs.ylhovesko_petrol.Reads as boundary-ylhovesko-petrol
+use Rattle.boundary.proofs.ylhovesko_petrol.Kinds as boundary-ylhovesko-petrol-kinds
+use Rattle.boundary.proofs.ylhovesko_diesel.Reads as boundary-ylhovesko-diesel
+use Rattle.boundary.proofs.ylhovesko_diesel.Kinds as boundary-ylhovesko-diesel-kinds
 
 -- ---- arith
 pub arith-whole-unique : Coincide 0 arith-whole-kinds.ps arith-whole-kinds.r arith-whole.Pre arith-whole.Post
@@ -326,6 +330,12 @@ boundary-ylhovesko-chosen-unique κs a x y ws vs pre h h′ = (h ∙ sym h′, r
 
 pub boundary-ylhovesko-result-unique : Coincide 0 boundary-ylhovesko-result-kinds.ps boundary-ylhovesko-result-kinds.r boundary-ylhovesko-result.Pre boundary-ylhovesko-result.Post
 boundary-ylhovesko-result-unique κs a x y ws vs pre h h′ = (h ∙ sym h′, refl)
+
+pub boundary-ylhovesko-petrol-unique : Coincide 0 boundary-ylhovesko-petrol-kinds.ps boundary-ylhovesko-petrol-kinds.r boundary-ylhovesko-petrol.Pre boundary-ylhovesko-petrol.Post
+boundary-ylhovesko-petrol-unique κs a x y ws vs pre h h′ = (h ∙ sym h′, refl)
+
+pub boundary-ylhovesko-diesel-unique : Coincide 0 boundary-ylhovesko-diesel-kinds.ps boundary-ylhovesko-diesel-kinds.r boundary-ylhovesko-diesel.Pre boundary-ylhovesko-diesel.Post
+boundary-ylhovesko-diesel-unique κs a x y ws vs pre h h′ = (h ∙ sym h′, refl)
 
 -- ---- the chosen trace: the same place in memory and the same bytes. The third part of a reference's value is its ghost name, which no program sees
 pub trace-choose-unique :

@@ -5,6 +5,7 @@ use bag::Triple;
 ghost use mathlib.Core.Path.{_≡_};
 ghost use Rattle.preset.specs.Preset.{presetWith, petrolOf, dieselOf};
 
+#[repr(C)]
 pub struct Preset {
     pub density: Densities,
     pub triple: Triple,

@@ -164,14 +164,15 @@ pub(crate) struct Figures {
 /// The full result of a test, or the first of the refusals 10 to 14.
 ///
 /// ```
-/// use ylhovesko::bags::{result, Fuel, Gases, Part, Reading, Sheet, Triple, Verdict};
+/// use ylhovesko::bags::{petrol, result, Gases, Part, Reading, Sheet, Verdict};
+/// let fuel = petrol(750);
 /// let air = Gases::of([Reading::ppm(0.0); 4]);
 /// let part = Part {
 ///     pump: 1000,
 ///     revolutions: 50_000,
 ///     barometer: 101_325,
 ///     distance: 1000,
-///     density: Gases::of([577_000, 1_160_000, 1_910_000, 1_830_000]),
+///     density: fuel.density,
 ///     bag: Gases { co2: Reading::percent(1.0), ..air },
 ///     air,
 ///     ..Part::default()
@@ -179,8 +180,8 @@ pub(crate) struct Figures {
 /// let sheet = Sheet {
 ///     class: 1,
 ///     count: 2,
-///     triple: Triple { d: 134, wc: 10, wh: 10 },
-///     fuel: Fuel { k: 1155, hc: 866, co: 429, co2: 273, density: 750 },
+///     triple: fuel.triple,
+///     fuel: fuel.fuel,
 ///     parts: [part; 3],
 ///     ..Sheet::default()
 /// };
@@ -197,4 +198,33 @@ pub fn result(sheet: Sheet) -> Result<TestResult, Refusal> {
     }
     let Figures { parts, weighted, verdicts, fuel } = figures;
     Ok(TestResult { parts, weighted, verdicts: Gases::of(verdicts.each().map(Verdict::of)), fuel })
+}
+
+/// What a fuel brings to the bag sheet: the densities of every part, the triple and the fuel sheet.
+#[repr(C)]
+#[derive(Clone, Copy, Debug, PartialEq, Eq)]
+pub struct Preset {
+    pub density: Gases<u32>,
+    pub triple: Triple,
+    pub fuel: Fuel,
+}
+
+/// The regulation's petrol. The density of the test fuel in g/l is measured; it is judged with the bag sheet.
+///
+/// ```
+/// let petrol = ylhovesko::bags::petrol(750);
+/// assert_eq!((petrol.density.hc, petrol.triple.d, petrol.fuel.k, petrol.fuel.density), (577_000, 134, 1155, 750));
+/// ```
+pub fn petrol(fuel_density: u32) -> Preset {
+    calls::petrol(fuel_density)
+}
+
+/// The regulation's diesel. Its triple has 133 tenths, the nearest to 13.28.
+///
+/// ```
+/// let diesel = ylhovesko::bags::diesel(840);
+/// assert_eq!((diesel.density.hc, diesel.triple.d, diesel.fuel.k, diesel.fuel.hc), (579_000, 133, 1160, 862));
+/// ```
+pub fn diesel(fuel_density: u32) -> Preset {
+    calls::diesel(fuel_density)
 }

@@ -1,6 +1,6 @@
 //! The core's calls where its archive is linked.
 
-use crate::bags::{Sheet, TestOutcome};
+use crate::bags::{Preset, Sheet, TestOutcome};
 use crate::gear::Vehicle;
 use crate::Outcome;
 
@@ -17,6 +17,8 @@ extern "C" {
     fn ylhovesko_judge_pair(normal: *const u8, normal_length: usize, reduced: *const u8, reduced_length: usize) -> Outcome;
     fn ylhovesko_chosen(normal: *const u8, normal_length: usize, reduced: *const u8, reduced_length: usize, switch: bool) -> u32;
     fn ylhovesko_result(sheet: Sheet) -> TestOutcome;
+    fn ylhovesko_petrol(fuel_density: u32) -> Preset;
+    fn ylhovesko_diesel(fuel_density: u32) -> Preset;
 }
 
 // Safety of all: a slice's pointer is not null and leads to its bytes, a `&mut` overlaps nothing, and the core keeps none of them.
@@ -35,4 +37,12 @@ pub fn chosen(normal: &[u8], reduced: &[u8], switch: bool) -> u32 {
 
 pub fn result(sheet: Sheet) -> TestOutcome {
     unsafe { ylhovesko_result(sheet) }
+}
+
+pub fn petrol(fuel_density: u32) -> Preset {
+    unsafe { ylhovesko_petrol(fuel_density) }
+}
+
+pub fn diesel(fuel_density: u32) -> Preset {
+    unsafe { ylhovesko_diesel(fuel_density) }
 }

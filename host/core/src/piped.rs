@@ -4,7 +4,7 @@ use std::cell::RefCell;
 use std::io::{Read, Write};
 use std::process::{Child, ChildStdin, ChildStdout, Command, Stdio};
 
-use crate::bags::{Ends, Figures, Gases, Part, PartResult, Sheet, TestOutcome};
+use crate::bags::{Ends, Figures, Fuel, Gases, Part, PartResult, Preset, Sheet, TestOutcome, Triple};
 use crate::gear::Vehicle;
 use crate::Outcome;
 
@@ -140,4 +140,25 @@ pub fn result(sheet: Sheet) -> TestOutcome {
     let verdicts = Gases::of([0, 1, 2, 3].map(|gas| number(verdicts, gas)));
     let fuel = EndsIn(rest).ends();
     TestOutcome { outcome: outcome(&answer), figures: Figures { parts, weighted, verdicts, fuel } }
+}
+
+fn preset(diesel: bool, fuel_density: u32) -> Preset {
+    let mut call = vec![b'f', u8::from(diesel)];
+    put_words(&mut call, &[fuel_density]);
+    let mut answer = [0; size_of::<Preset>()];
+    SERVER.with_borrow_mut(|server| server.call(&call, &mut answer));
+    let at = |place: usize| number(&answer, place);
+    Preset {
+        density: Gases::of([at(0), at(1), at(2), at(3)]),
+        triple: Triple { d: at(4), wc: at(5), wh: at(6) },
+        fuel: Fuel { k: at(7), hc: at(8), co: at(9), co2: at(10), density: at(11) },
+    }
+}
+
+pub fn petrol(fuel_density: u32) -> Preset {
+    preset(false, fuel_density)
+}
+
+pub fn diesel(fuel_density: u32) -> Preset {
+    preset(true, fuel_density)
 }
