@@ -1,0 +1,59 @@
+//! The words and options after a command.
+
+use crate::Failure;
+use std::ffi::{OsStr, OsString};
+use std::path::{Path, PathBuf};
+
+/// What stands after a command, taken apart.
+pub struct Arguments {
+    words: Vec<OsString>,
+    options: Vec<(&'static str, OsString)>,
+    flags: Vec<&'static str>,
+}
+
+impl Arguments {
+    /// `options` take a value each, `flags` none.
+    pub fn of(given: &[OsString], options: &[&'static str], flags: &[&'static str]) -> Result<Arguments, Failure> {
+        let mut taken = Arguments { words: Vec::new(), options: Vec::new(), flags: Vec::new() };
+        let mut given = given.iter();
+        while let Some(word) = given.next() {
+            if let Some(option) = options.iter().copied().find(|option| word == *option) {
+                let Some(value) = given.next() else { return Err(Failure::usage(format!("{option} needs a value"))) };
+                if taken.option(option).is_some() {
+                    return Err(Failure::usage(format!("{option} is given twice")));
+                }
+                taken.options.push((option, value.clone()));
+            } else if let Some(flag) = flags.iter().copied().find(|flag| word == *flag) {
+                taken.flags.push(flag);
+            } else if is_option(word) {
+                return Err(Failure::usage(format!("unknown option '{}'", word.to_string_lossy())));
+            } else {
+                taken.words.push(word.clone());
+            }
+        }
+        Ok(taken)
+    }
+
+    pub fn option(&self, name: &str) -> Option<&Path> {
+        self.options.iter().find(|(option, _)| *option == name).map(|(_, value)| Path::new(value))
+    }
+
+    pub fn has(&self, flag: &str) -> bool {
+        self.flags.contains(&flag)
+    }
+
+    /// The words, as paths.
+    pub fn paths(&self) -> Vec<PathBuf> {
+        self.words.iter().map(PathBuf::from).collect()
+    }
+
+    /// The words where there are exactly as many as the command takes.
+    pub fn exactly<const N: usize>(&self) -> Result<[PathBuf; N], Failure> {
+        let found = self.words.len();
+        self.paths().try_into().map_err(|_| Failure::usage(format!("{N} expected, {found} given")))
+    }
+}
+
+fn is_option(word: &OsStr) -> bool {
+    word.len() > 1 && word.as_encoded_bytes().starts_with(b"-")
+}

@@ -1,0 +1,90 @@
+//! What `--help` prints.
+
+pub const TOP: &str = "\
+The calculation core for motorcycle emission benches, for the operator.
+
+usage: ylhovesko-bench COMMAND ..
+
+  gears TRACE VEHICLE    the gear and the clutch of each second of a trace
+  result BAGSHEET        the result of a Type I test from its bag sheet
+  check FILE..           whether traces and sheets are accepted, and if not, why and where
+  preset FUEL DENSITY    the lines of a bag sheet that the fuel decides
+  demo                   the gears and the result of the files of a folder
+
+COMMAND --help says more of a command.
+
+A sheet is a text of lines 'key = value'; what follows # is a comment. Its first key is 'sheet = vehicle' or 'sheet = bags'. Values are whole
+numbers in the units that the help of 'gears' and of 'result' gives.
+
+exit: 0 accepted, 1 refused (the refusal is printed), 2 wrong use or a file that cannot be read
+";
+
+pub const GEARS: &str = "\
+usage: ylhovesko-bench gears TRACE VEHICLE [--csv FILE] [--svg FILE]
+
+Prints the gear and the clutch of a trace (a house file) for a vehicle sheet, a line for each run of seconds.
+
+  --csv FILE    writes every second with its speed, phase, gear and clutch
+  --svg FILE    writes a picture of the speed over time, in the colour of the gear, with the seconds of the clutch out
+
+A vehicle sheet:
+  sheet = vehicle
+  power = 720       # rated power, 0.1 kW
+  mass = 199        # kerb mass, kg
+  rated = 11800     # rated engine speed, per minute
+  idle = 1150       # idle speed, per minute
+  gears = 6         # 3 to 8
+  ndv 1 = 13366     # engine speed over road speed in gear 1, 0.01 per minute per km/h; and so on to the last gear
+";
+
+pub const RESULT: &str = "\
+usage: ylhovesko-bench result BAGSHEET
+
+Prints volume, masses and rates of each part, the weighted result with its verdicts, and the fuel consumption. Each figure has two ends, and the
+exact one lies between them.
+
+A bag sheet:
+  sheet = bags
+  class = 3                 # 1 to 3; the classes 1 and 2 have two parts, class 3 has three
+  limit hc = 100000         # micrograms/km; so for co, nox, co2
+  triple d = 134            # the dilution triple, tenths; so for wc, wh
+  fuel k = 1155             # 1/10,000
+  fuel hc = 866             # carbon factor, 1/1,000; so for co, co2
+  fuel density = 750        # g/l
+  [part 1]                  # then [part 2], and [part 3] for class 3
+  pump = 5000               # ml a revolution
+  revolutions = 10000
+  barometer = 101325        # Pa
+  depression = 1200         # at the pump's inlet, Pa
+  temperature = 250         # at the inlet, 0.1 degree C
+  humidity = 500            # 0.1 percent
+  saturation = 3169         # saturation pressure, Pa
+  distance = 4065           # m
+  density hc = 577000       # mg per cubic metre; so for co, nox, co2
+  bag hc = 12.5 ppm         # or 1.2 %, over range, not fitted; so for co, nox, co2
+  air hc = 3.5 ppm          # the dilution air, likewise
+";
+
+pub const CHECK: &str = "\
+usage: ylhovesko-bench check FILE..
+       ylhovesko-bench check --pair NORMAL REDUCED
+
+Says of each file whether it is accepted, or the refusal with its place. A file whose name ends in .wtr is a trace, any other a sheet.
+
+  --pair    judges two traces as the normal and the reduced one of a cycle
+";
+
+pub const PRESET: &str = "\
+usage: ylhovesko-bench preset petrol|diesel DENSITY
+
+Prints the lines of a bag sheet that the fuel decides: the dilution triple and the fuel sheet of the test, then the densities of each part. DENSITY
+is the fuel's, in g/l.
+";
+
+pub const DEMO: &str = "\
+usage: ylhovesko-bench demo [--from FOLDER]
+
+Prints the gears of the machine annex13.vehicle on the six traces part1_normal.wtr to part3_reduced.wtr, and the result of low_nox.bags.
+
+  --from FOLDER    where these files are; 'demo' where it is not given
+";

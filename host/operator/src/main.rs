@@ -1,0 +1,111 @@
+//! The operator's command over the proved core: it reads traces and text sheets, asks the core, and prints what it says.
+//!
+//! Nothing is worked out here. Exit 0 says accepted, 1 refused by the core, 2 wrong use or a file that cannot be read.
+
+mod arguments;
+mod bags;
+mod commands;
+mod files;
+mod help;
+mod picture;
+mod preset;
+mod refusals;
+mod result_sheet;
+mod row;
+mod sheet;
+mod vehicle;
+
+use std::ffi::OsString;
+use std::io::{self, ErrorKind, Write};
+use std::path::Path;
+use std::process::ExitCode;
+
+const ACCEPTED: u8 = 0;
+const REFUSED: u8 = 1;
+const UNUSABLE: u8 = 2;
+
+/// Why a command did not come to ask the core.
+pub struct Failure(String);
+
+impl Failure {
+    pub fn usage(message: String) -> Failure {
+        Failure(format!("{message}; --help says how to use it\n"))
+    }
+
+    /// A line for each thing that is wrong with a file.
+    pub fn of_file(path: &Path, complaints: &[String]) -> Failure {
+        Failure(complaints.iter().map(|complaint| format!("{}: {complaint}\n", path.display())).collect())
+    }
+}
+
+/// What a command says on either stream, and its exit code.
+#[derive(Default)]
+pub struct Told {
+    text: String,
+    errors: String,
+    code: u8,
+}
+
+impl Told {
+    pub fn accepted(text: String) -> Told {
+        Told { text, errors: String::new(), code: ACCEPTED }
+    }
+
+    pub fn refused(text: String) -> Told {
+        Told { text, errors: String::new(), code: REFUSED }
+    }
+
+    pub fn failed(failure: Failure) -> Told {
+        Told { text: String::new(), errors: failure.0, code: UNUSABLE }
+    }
+
+    /// Puts another's words behind these; the graver code counts.
+    pub fn add(&mut self, other: Told) {
+        self.text += &other.text;
+        self.errors += &other.errors;
+        self.code = self.code.max(other.code);
+    }
+}
+
+type Command = fn(&[OsString]) -> Result<Told, Failure>;
+
+/// Each command with its help.
+const COMMANDS: [(&str, &str, Command); 5] = [
+    ("gears", help::GEARS, commands::gears),
+    ("result", help::RESULT, commands::result),
+    ("check", help::CHECK, commands::check),
+    ("preset", help::PRESET, preset::preset),
+    ("demo", help::DEMO, commands::demo),
+];
+
+fn answer(given: &[OsString]) -> Result<Told, Failure> {
+    let Some((command, rest)) = given.split_first() else {
+        return Err(Failure::usage("no command given".to_string()));
+    };
+    if command == "--help" {
+        return Ok(Told::accepted(help::TOP.to_string()));
+    }
+    let Some((_, help, run)) = COMMANDS.iter().find(|(name, _, _)| command == name) else {
+        return Err(Failure::usage(format!("unknown command '{}'", command.to_string_lossy())));
+    };
+    if rest.iter().any(|word| word == "--help") {
+        return Ok(Told::accepted(help.to_string()));
+    }
+    run(rest)
+}
+
+fn main() -> ExitCode {
+    let given: Vec<OsString> = std::env::args_os().skip(1).collect();
+    let told = answer(&given).unwrap_or_else(Told::failed);
+    // There is no one left to tell where the error stream is closed.
+    let _ = io::stderr().write_all(told.errors.as_bytes());
+    let mut out = io::stdout();
+    match out.write_all(told.text.as_bytes()).and_then(|()| out.flush()) {
+        // A reader that has seen enough is no fault.
+        Err(error) if error.kind() != ErrorKind::BrokenPipe => {
+            let _ = writeln!(io::stderr(), "the output cannot be written: {error}");
+            ExitCode::from(UNUSABLE)
+        }
+        _ => ExitCode::from(told.code),
+    }
+}

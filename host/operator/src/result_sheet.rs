@@ -1,0 +1,69 @@
+//! The result of a test, printed. Every figure has two ends, and the exact one lies between them or at one of them.
+
+use crate::refusals::GASES;
+use ylhovesko::bags::{Ends, Gases, PartResult, Sheet, TestResult, Verdict};
+
+/// A number with a comma after each three digits, and a minus sign below zero.
+pub fn grouped(number: i128) -> String {
+    let digits = number.unsigned_abs().to_string();
+    let mut text = if number < 0 { "-".to_string() } else { String::new() };
+    for (i, digit) in digits.chars().enumerate() {
+        if i > 0 && (digits.len() - i) % 3 == 0 {
+            text.push(',');
+        }
+        text.push(digit);
+    }
+    text
+}
+
+fn both(ends: Ends) -> String {
+    format!("{:>20} {:>20}", grouped(ends.lower.into()), grouped(ends.upper.into()))
+}
+
+/// The heading of a table: what it has, with its unit, over the lines of [`line`].
+fn heading(title: &str) -> String {
+    format!("{title:<30}{:>20} {:>20}", "lower end", "upper end")
+}
+
+fn line(name: &str, ends: Ends) -> String {
+    format!("{:<30}{}", format!("    {name}"), both(ends))
+}
+
+fn gas_lines(title: &str, figures: Gases<Ends>) -> String {
+    let lines = GASES.iter().zip(figures.each()).map(|(gas, ends)| line(gas, ends) + "\n");
+    format!("  {title}\n{}", lines.collect::<String>())
+}
+
+fn part_lines(number: usize, part: PartResult) -> String {
+    let heading = heading(&format!("Part {number}"));
+    let volume = line("diluted gas", part.volume);
+    let mass = gas_lines("mass, micrograms", part.mass);
+    let rate = gas_lines("rate, micrograms/km", part.rate);
+    format!("{heading}\n  volume, ml\n{volume}\n{mass}{rate}\n")
+}
+
+fn verdict(verdict: Verdict) -> &'static str {
+    match verdict {
+        Verdict::Pass => "pass",
+        Verdict::Fail => "fail",
+        Verdict::Undecided => "undecided: the limit lies between the ends",
+    }
+}
+
+fn weighted_lines(limits: Gases<u64>, result: &TestResult) -> String {
+    let mut lines = format!("{} {:>20}  verdict\n", heading("Weighted, micrograms/km"), "limit");
+    let told = result.weighted.each().into_iter().zip(limits.each()).zip(result.verdicts.each());
+    for (gas, ((ends, limit), judged)) in GASES.iter().zip(told) {
+        lines += &format!("{} {:>20}  {}\n", line(gas, ends), grouped(limit.into()), verdict(judged));
+    }
+    lines
+}
+
+/// The whole sheet.
+pub fn text(sheet: &Sheet, result: &TestResult) -> String {
+    let given = result.parts.iter().take(sheet.count as usize);
+    let parts: String = (1..).zip(given).map(|(number, part)| part_lines(number, *part)).collect();
+    let weighted = weighted_lines(sheet.limits, result);
+    let fuel = format!("{}\n{}\n", heading("Fuel, microlitres per 100 km"), line("consumption", result.fuel));
+    format!("{parts}{weighted}\n{fuel}")
+}

@@ -1,0 +1,33 @@
+//! The vehicle sheet.
+
+use crate::sheet::Sheet;
+use ylhovesko::gear::Vehicle;
+
+/// The first word of its file.
+pub const KIND: &str = "vehicle";
+
+fn ndv_key(gear: usize) -> String {
+    format!("ndv {gear}")
+}
+
+fn keys() -> Vec<String> {
+    let fields = ["sheet", "power", "mass", "rated", "idle", "gears"].map(str::to_string);
+    fields.into_iter().chain((1..=8).map(ndv_key)).collect()
+}
+
+/// The vehicle that the sheet describes, for the core to judge; or what in it is not of a vehicle sheet.
+pub fn vehicle_of(sheet: &Sheet) -> Result<Vehicle, Vec<String>> {
+    if let Some(section) = sheet.sections.first() {
+        return Err(vec![format!("line {}: a vehicle sheet has no section '[{}]'", section.line, section.heading)]);
+    }
+    sheet.judge_keys(&keys(), &[])?;
+    let head = &sheet.head;
+    Ok(Vehicle {
+        power: head.unsigned("power"),
+        mass: head.unsigned("mass"),
+        rated: head.unsigned("rated"),
+        idle: head.unsigned("idle"),
+        gears: head.unsigned("gears"),
+        ndv: std::array::from_fn(|i| head.unsigned(&ndv_key(i + 1))),
+    })
+}

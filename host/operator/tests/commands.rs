@@ -1,0 +1,331 @@
+//! The operator's command, run as an operator runs it: the demo against its stored output, and damaged files, each of which has to end in the
+//! paper's refusal with its place, or as a file that cannot be read.
+
+use std::fs;
+use std::path::{Path, PathBuf};
+use std::process::Command;
+
+fn demo() -> PathBuf {
+    Path::new(env!("CARGO_MANIFEST_DIR")).join("../../demo")
+}
+
+/// What a run said on either stream, and its exit code.
+struct Run {
+    out: String,
+    errors: String,
+    code: Option<i32>,
+}
+
+fn run(arguments: &[&str]) -> Run {
+    let done = Command::new(env!("CARGO_BIN_EXE_ylhovesko-bench")).args(arguments).output().unwrap();
+    let text = |bytes: Vec<u8>| String::from_utf8(bytes).unwrap();
+    Run { out: text(done.stdout), errors: text(done.stderr), code: done.status.code() }
+}
+
+/// A file of its own for each test, which may run beside another.
+fn stored(name: &str, bytes: impl AsRef<[u8]>) -> String {
+    let path = Path::new(env!("CARGO_TARGET_TMPDIR")).join(name);
+    fs::write(&path, bytes).unwrap();
+    path.to_str().unwrap().to_string()
+}
+
+fn demo_text(name: &str) -> String {
+    fs::read_to_string(demo().join(name)).unwrap()
+}
+
+/// The demo's file with one text for another at the first place where it stands.
+fn edited(name: &str, from: &str, to: &str) -> String {
+    let text = demo_text(name);
+    assert!(text.contains(from), "{name} has no '{from}'");
+    text.replacen(from, to, 1)
+}
+
+/// `check` refuses the file with these words.
+fn refused(name: &str, bytes: impl AsRef<[u8]>, words: &str) {
+    let path = stored(name, bytes);
+    let run = run(&["check", &path]);
+    assert_eq!((run.out, run.errors), (format!("{path}: refused: {words}\n"), String::new()));
+    assert_eq!(run.code, Some(1));
+}
+
+/// `check` cannot read the file, and says so with these words.
+fn unreadable(name: &str, bytes: impl AsRef<[u8]>, words: &str) {
+    let path = stored(name, bytes);
+    let run = run(&["check", &path]);
+    assert_eq!((run.out, run.errors), (String::new(), format!("{path}: {words}\n")));
+    assert_eq!(run.code, Some(2));
+}
+
+#[test]
+fn the_demo_is_as_stored() {
+    let run = run(&["demo", "--from", demo().to_str().unwrap()]);
+    assert_eq!(run.errors, "");
+    assert!(run.out == demo_text("stdout"), "the demo does not print demo/stdout");
+    assert_eq!(run.code, Some(0));
+}
+
+#[test]
+fn the_demo_has_what_it_shows() {
+    let text = demo_text("stdout");
+    for shown in ["  pass\n", "  fail\n", "    NOx                                     -3,404               -3,399"] {
+        assert!(text.contains(shown), "demo/stdout has no '{shown}'");
+    }
+}
+
+#[test]
+fn house_files_come_from_the_tables() {
+    for name in ["part1_normal", "part1_reduced", "part2_normal", "part2_reduced", "part3_normal", "part3_reduced"] {
+        let made = Path::new(env!("CARGO_TARGET_TMPDIR")).join(format!("{name}_made.wtr"));
+        let table = demo().join(format!("cycles/{name}.csv"));
+        let done = Command::new(env!("CARGO_BIN_EXE_house-file")).arg(table).arg(&made).status().unwrap();
+        assert!(done.success());
+        let made = fs::read(made).unwrap();
+        for stored in ["demo", "crates/gear_figures/data"] {
+            let file = demo().join("..").join(stored).join(format!("{name}.wtr"));
+            assert!(made == fs::read(&file).unwrap(), "{} differs from its table", file.display());
+        }
+    }
+}
+
+#[test]
+fn a_malformed_table_makes_no_house_file() {
+    let heading = "second,speed_tenths,phase,no_gearshift,no_first\n";
+    let lines = ["2,0,stop,0,0", "1,-1,stop,0,0", "1,65536,stop,0,0", "1,0,halt,0,0", "1,0,stop,2,0", "1,0,stop,0", "1,0,stop,0,0,0", ""];
+    let texts = lines.map(|line| format!("{heading}{line}\n")).into_iter().chain(["1,0,stop,0,0\n".to_string()]);
+    let made = Path::new(env!("CARGO_TARGET_TMPDIR")).join("malformed_made.wtr");
+    for text in texts {
+        let table = stored("malformed.csv", &text);
+        let done = Command::new(env!("CARGO_BIN_EXE_house-file")).arg(table).arg(&made).output().unwrap();
+        assert_eq!((done.status.code(), made.exists()), (Some(2), false), "{text}");
+    }
+}
+
+#[test]
+fn damaged_vehicle_sheets() {
+    let with = |from, to| edited("annex13.vehicle", from, to);
+    refused("power.vehicle", with("power = 720", ""), "5 vehicle sheet out of range, field 1 power");
+    refused("negative.vehicle", with("mass = 199", "mass = -199"), "5 vehicle sheet out of range, field 2 mass");
+    refused("malformed.vehicle", with("rated = 11800", "rated = 11,800"), "5 vehicle sheet out of range, field 3 rated");
+    refused("large.vehicle", with("idle = 1150", "idle = 4294968446"), "5 vehicle sheet out of range, field 4 idle");
+    refused("empty.vehicle", with("gears = 6", "gears ="), "5 vehicle sheet out of range, field 5 gears");
+    refused("ndv.vehicle", with("ndv 3 = 7616", "ndv 3 = 76.16"), "5 vehicle sheet out of range, field 8 ndv of gear 3");
+    refused("rising.vehicle", with("ndv 3 = 7616", "ndv 3 = 9491"), "6 ndv not below that of the gear before, gear 3");
+    refused("strong.vehicle", with("power = 720", "power = 3000"), "7 power to mass");
+    refused("bare.vehicle", "sheet = vehicle\n", "5 vehicle sheet out of range, field 1 power");
+}
+
+#[test]
+fn damaged_values_of_a_test() {
+    let with = |from, to| edited("low_nox.bags", from, to);
+    let count = "10 class not 1 to 3, or wrong number of parts";
+    refused("class.bags", with("class = 3", ""), count);
+    refused("two.bags", with("class = 3", "class = 2"), count);
+    refused("four.bags", with("[part 3]", "[part 4]"), count);
+    refused("twice.bags", with("[part 3]", "[part 2]"), count);
+    refused("swapped.bags", with("[part 1]", "[part 3]"), count);
+    refused("unnumbered.bags", with("[part 1]", "[part]"), count);
+    refused("bare.bags", "sheet = bags\nclass = 3\n", count);
+    refused("triple.bags", with("triple wc = 10\n", ""), "11 bag sheet value, test, field 10 dilution triple");
+    refused("fuel.bags", with("fuel co2 = 273", "fuel co2 = x"), "11 bag sheet value, test, field 11 fuel sheet");
+    refused("limit.bags", with("limit nox = 60000", "limit nox = -1"), "11 bag sheet value, test, field 12 limits");
+    let past = "limit nox = 18446744073709551616";
+    refused("past.bags", with("limit nox = 60000", past), "11 bag sheet value, test, field 12 limits");
+}
+
+#[test]
+fn damaged_values_of_a_part() {
+    let fields = [
+        ("pump = 4500 ", "pump = ", "1 pump"),
+        ("revolutions = 15020", "revolutions = 1e4", "2 revolutions"),
+        ("barometer = 101120", "barometer = 1011.2", "3 barometer"),
+        ("depression = 1450", "depression = -1450", "4 depression"),
+        ("temperature = 262", "temperature = 26.2", "5 temperature"),
+        ("temperature = 262", "temperature = 2147483910", "5 temperature"),
+        ("humidity = 482", "humidity = 48 %", "6 humidity"),
+        ("saturation = 2809", "saturation = 4294970105", "7 saturation"),
+        ("distance = 4065", "", "8 distance"),
+        ("density nox = 1910000", "density nox = -1", "9 density"),
+    ];
+    for (from, to, field) in fields {
+        refused("part.bags", edited("low_nox.bags", from, to), &format!("11 bag sheet value, part 1, field {field}"));
+    }
+}
+
+#[test]
+fn damaged_readings() {
+    let damaged = [
+        "over range",
+        "not fitted",
+        "",
+        "0.42",
+        "0,42 ppm",
+        "-0.1 ppm",
+        "nan ppm",
+        "inf ppm",
+        "infinity %",
+        "1e39 ppm",
+        "65537 ppm",
+        "7 %",
+        "ppm",
+        "0.42 ppb",
+    ];
+    for value in damaged {
+        let text = edited("low_nox.bags", "bag nox = 0.70 ppm", &format!("bag nox = {value}"));
+        refused("reading.bags", text, "12 reading unusable, part 2, NOx, bag");
+    }
+    refused("air.bags", edited("low_nox.bags", "air nox = 0.83 ppm\n", ""), "12 reading unusable, part 2, NOx, dilution air");
+    refused(
+        "rich.bags",
+        edited("low_nox.bags", "bag co = 88.6 ppm", "bag co = 6.55 %").replace("0.452 %", "6.55 %").replace("31.4 ppm", "6.55 %"),
+        "13 G not below Q, part 1",
+    );
+    refused("humid.bags", edited("low_nox.bags", "saturation = 2809", "saturation = 11000"), "14 H above 30, part 1");
+}
+
+#[test]
+fn readings_in_other_words() {
+    for value in ["7e-1 ppm", "0.70ppm", "+.70  PPM", "0.00007 %", "-0 ppm"] {
+        let path = stored("taken.bags", edited("low_nox.bags", "bag nox = 0.70 ppm", &format!("Bag  NOx = {value}")));
+        assert_eq!(run(&["check", &path]).out, format!("{path}: accepted\n"), "{value}");
+    }
+}
+
+#[test]
+fn what_is_no_sheet() {
+    let bags = |from, to| edited("low_nox.bags", from, to);
+    unreadable("unknown.bags", bags("class = 3", "clas = 3"), "line 4: unknown key 'clas'");
+    unreadable("again.bags", bags("class = 3", "class = 3\nclass = 3"), "line 5: key 'class' stands in line 4 already");
+    unreadable("misplaced.bags", bags("class = 3", "class = 3\npump = 4500"), "line 5: unknown key 'pump'");
+    unreadable("section.bags", bags("[part 1]", "[first part]"), "line 21: unknown section '[first part]'");
+    unreadable("line.bags", bags("class = 3", "class 3"), "line 4: neither 'key = value' nor '[part 1]': 'class 3'");
+    let sectioned = edited("annex13.vehicle", "power", "[part 1]\npower");
+    unreadable("section.vehicle", sectioned, "line 3: a vehicle sheet has no section '[part 1]'");
+    unreadable("ninth.vehicle", edited("annex13.vehicle", "ndv 6", "ndv 9"), "line 14: unknown key 'ndv 9'");
+    let first = "cannot be read as a sheet: its first key is not 'sheet'";
+    unreadable("nameless.vehicle", edited("annex13.vehicle", "sheet = vehicle", ""), first);
+    unreadable("empty.bags", "", first);
+    unreadable("binary.bags", [b's', 0xff], "cannot be read as a sheet: it is not UTF-8 text");
+    let other = "cannot be read as a sheet: 'sheet = car' is neither 'vehicle' nor 'bags'";
+    unreadable("car.vehicle", "sheet = car\n", other);
+    unreadable("long.bags", vec![b'#'; 65_537], "cannot be read as a sheet: it is too long");
+}
+
+#[test]
+fn damaged_traces() {
+    let trace = fs::read(demo().join("part1_normal.wtr")).unwrap();
+    let changed = |at: usize, byte: u8| {
+        let mut bytes = trace.clone();
+        bytes[at] = byte;
+        bytes
+    };
+    refused("short.wtr", &trace[..7], "1 under 8 bytes, mark, zero byte or version wrong");
+    refused("mark.wtr", changed(0, b'w'), "1 under 8 bytes, mark, zero byte or version wrong");
+    refused("count.wtr", changed(7, 0xff), "2 count not 1 to 2,000");
+    refused("truncated.wtr", &trace[..trace.len() - 1], "3 length not 8 + 4 x count");
+    refused("endless.wtr", [trace.as_slice(), &[0; 100_000]].concat(), "3 length not 8 + 4 x count");
+    refused("second.wtr", changed(8 + 4 * 16 + 3, 1), "4 speed, flags or fourth byte wrong, second 17");
+}
+
+#[test]
+fn pairs_of_traces() {
+    let short = [b'W', b'T', b'R', 0, 1, 0, 1, 0, 0, 0, 0, 0];
+    let reduced = stored("reduced.wtr", short);
+    let normal = demo().join("part1_normal.wtr").to_str().unwrap().to_string();
+    let told = run(&["check", "--pair", &normal, &reduced]);
+    assert_eq!(told.out, format!("{normal} and {reduced}: refused: 15 normal and reduced counts differ\n"));
+    assert_eq!(told.code, Some(1));
+    assert_eq!(run(&["check", "--pair", &normal, &normal]).code, Some(0));
+}
+
+#[test]
+fn the_gravest_file_decides_the_code() {
+    let good = demo().join("annex13.vehicle").to_str().unwrap().to_string();
+    let bad = stored("gravest.wtr", []);
+    let told = run(&["check", "/nowhere/at/all", &bad, &good]);
+    assert!(told.errors.starts_with("/nowhere/at/all: cannot be read: "), "{}", told.errors);
+    assert!(told.out.ends_with(": accepted\n") && told.out.contains(": refused: 1 "), "{}", told.out);
+    assert_eq!(told.code, Some(2));
+}
+
+#[test]
+fn refused_gears_write_no_files() {
+    let trace = demo().join("part1_normal.wtr").to_str().unwrap().to_string();
+    let vehicle = stored("refused.vehicle", edited("annex13.vehicle", "gears = 6", "gears = 9"));
+    let csv = Path::new(env!("CARGO_TARGET_TMPDIR")).join("refused.csv");
+    let told = run(&["gears", &trace, &vehicle, "--csv", csv.to_str().unwrap()]);
+    assert_eq!(told.out, "refused: 5 vehicle sheet out of range, field 5 gears\n");
+    assert_eq!((told.code, csv.exists()), (Some(1), false));
+}
+
+#[test]
+fn gears_in_other_forms() {
+    let of = |name: &str| demo().join(name).to_str().unwrap().to_string();
+    let (csv, svg) = (stored("row.csv", ""), stored("row.svg", ""));
+    let told = run(&["gears", &of("part1_normal.wtr"), &of("annex13.vehicle"), "--csv", &csv, "--svg", &svg]);
+    assert_eq!((told.code, told.errors.as_str()), (Some(0), ""));
+    let lines = fs::read_to_string(csv).unwrap();
+    assert!(lines.starts_with("second,speed in km/h,phase,gear,clutch\n1,0.0,stop,0,out\n"), "{lines}");
+    assert_eq!(lines.lines().count(), 601);
+    let picture = fs::read_to_string(svg).unwrap();
+    assert!(picture.starts_with("<svg ") && picture.ends_with("</svg>\n"));
+    for word in ["time, s", "speed, km/h", "neutral", "gear 4", "clutch out"] {
+        assert!(picture.contains(&format!(">{word}</text>")), "{word}");
+    }
+}
+
+#[test]
+fn a_preset_makes_a_sheet_that_is_taken() {
+    for fuel in ["petrol", "diesel"] {
+        let told = run(&["preset", fuel, "748"]);
+        assert_eq!((told.code, told.errors.as_str()), (Some(0), ""));
+        let (test, part) = told.out.split_once("748\n").unwrap();
+        let without = |text: &str, words: &[&str]| -> String {
+            text.lines().filter(|line| !words.iter().any(|word| line.starts_with(word))).map(|line| format!("{line}\n")).collect()
+        };
+        let text = without(&demo_text("low_nox.bags"), &["triple ", "fuel ", "density "]);
+        let text = text.replacen("class = 3\n", &format!("class = 3\n{test}748\n"), 1).replace("pump = ", &format!("{part}pump = "));
+        let path = stored(&format!("{fuel}.bags"), text);
+        assert_eq!(run(&["check", &path]).out, format!("{path}: accepted\n"));
+    }
+}
+
+#[test]
+fn wrong_use() {
+    for arguments in [
+        &[][..],
+        &["row"],
+        &["--csv"],
+        &["gears"],
+        &["gears", "a"],
+        &["gears", "a", "b", "c"],
+        &["gears", "a", "b", "--csv"],
+        &["gears", "a", "b", "--CSV", "c"],
+        &["gears", "a", "b", "--csv", "c", "--csv", "d"],
+        &["result"],
+        &["result", "a", "b"],
+        &["check"],
+        &["check", "--pair", "a"],
+        &["preset", "petrol"],
+        &["preset", "coal", "750"],
+        &["preset", "petrol", "-1"],
+        &["preset", "petrol", "x"],
+        &["demo", "a"],
+        &["demo", "--from", "/nowhere/at/all"],
+    ] {
+        let told = run(arguments);
+        assert_eq!((told.out.as_str(), told.code), ("", Some(2)), "{arguments:?}");
+        assert!(!told.errors.is_empty(), "{arguments:?}");
+    }
+}
+
+#[test]
+fn every_command_has_help() {
+    let top = run(&["--help"]);
+    assert_eq!((top.code, top.errors.as_str()), (Some(0), ""));
+    for command in ["gears", "result", "check", "preset", "demo"] {
+        assert!(top.out.contains(&format!("\n  {command} ")), "{command}");
+        let told = run(&[command, "--help"]);
+        assert_eq!((told.code, told.errors.as_str()), (Some(0), ""));
+        assert!(told.out.starts_with(&format!("usage: ylhovesko-bench {command} ")), "{command}");
+    }
+}
