@@ -86,7 +86,7 @@ fn decimal(number: &str) -> Option<f32> {
 
 /// In small letters, with one space between words.
 fn lowered(words: &str) -> String {
-    words.split_whitespace().collect::<Vec<_>>().join(" ").to_lowercase()
+    words.split_whitespace().collect::<Vec<_>>().join(" ").to_ascii_lowercase()
 }
 
 /// A sheet as it is written.
