@@ -21,37 +21,37 @@ fn of_gases<T>(word: &str, value: impl Fn(&str) -> T) -> Gases<T> {
     Gases::of(GAS_KEYS.map(|gas| value(&format!("{word} {gas}"))))
 }
 
-/// The bag sheet for the core to judge; or what in it is not of a bag sheet.
-pub fn bag_sheet_of(sheet: &Sheet) -> Result<BagSheet, Vec<String>> {
-    if let Some(other) = sheet.sections.iter().find(|section| !is_part(section)) {
-        return Err(vec![format!("line {}: unknown section '[{}]'", other.line, other.heading)]);
-    }
+/// The bag sheet for the core to judge, and what in it is not of a bag sheet.
+pub fn bag_sheet_of(sheet: Sheet) -> (BagSheet, Vec<String>) {
+    let mut sheet = sheet.of_kind(KIND);
+    sheet.note_sections(|section| (1..=3).any(|number| is_part(section, number)));
     let test_keys: Vec<String> = TEST_KEYS.map(str::to_string).into_iter().chain(gas_keys("limit")).collect();
     let readings = ["density", "bag", "air"].into_iter().flat_map(gas_keys);
     let part_keys: Vec<String> = PART_KEYS.map(str::to_string).into_iter().chain(readings).collect();
-    sheet.judge_keys(&test_keys, &part_keys)?;
+    sheet.note_keys(&test_keys, &part_keys);
     let head = &sheet.head;
     let mut parts = [Part::default(); 3];
     for (part, section) in parts.iter_mut().zip(&sheet.sections) {
         *part = part_of(section);
     }
-    Ok(BagSheet {
+    let bags = BagSheet {
         class: head.unsigned("class"),
         count: count_of(&sheet.sections),
         triple: Triple { d: head.unsigned("triple d"), wc: head.unsigned("triple wc"), wh: head.unsigned("triple wh") },
         fuel: fuel_of(head),
         limits: of_gases("limit", |key| head.limit(key)),
         parts,
-    })
+    };
+    (bags, sheet.notes)
 }
 
-fn is_part(section: &Section) -> bool {
-    section.heading == "part" || section.heading.starts_with("part ")
+fn is_part(section: &Section, number: u32) -> bool {
+    section.heading == format!("part {number}")
 }
 
 /// How many parts there are; 0, which no class has, where they are not numbered 1, 2, 3 in this order, so that none is taken for another.
 fn count_of(sections: &[Section]) -> u32 {
-    let in_order = (1..).zip(sections).all(|(number, section)| section.heading == format!("part {number}"));
+    let in_order = (1..).zip(sections).all(|(number, section)| is_part(section, number));
     u32::try_from(sections.len()).ok().filter(|_| in_order).unwrap_or(0)
 }
 

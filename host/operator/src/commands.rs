@@ -1,7 +1,7 @@
 //! What each command does: files in, one text out.
 
 use crate::arguments::Arguments;
-use crate::files::{self, Known};
+use crate::files::{self, Known, Noted};
 use crate::{picture, refusals, result_sheet, row, Failure, Told};
 use std::ffi::OsString;
 use std::path::Path;
@@ -19,9 +19,10 @@ pub fn gears(given: &[OsString]) -> Result<Told, Failure> {
 
 fn gears_of(trace: &Path, vehicle: &Path, csv: Option<&Path>, svg: Option<&Path>) -> Result<Told, Failure> {
     let title = format!("Gears of {} for {}", files::name(trace), files::name(vehicle));
-    let row = match row::row_of(&files::read(trace)?, files::vehicle(vehicle)?) {
+    let Noted { value: vehicle, notes } = files::vehicle(vehicle)?;
+    let row = match row::row_of(&files::read(trace)?, vehicle) {
         Ok(row) => row,
-        Err(refusal) => return Ok(Told::refused(refusals::line(refusal) + "\n")),
+        Err(refusal) => return Ok(Told::refused(refusals::line(refusal) + "\n").noting(&notes)),
     };
     if let Some(path) = csv {
         files::write(path, &row::csv(&row))?;
@@ -29,7 +30,7 @@ fn gears_of(trace: &Path, vehicle: &Path, csv: Option<&Path>, svg: Option<&Path>
     if let Some(path) = svg {
         files::write(path, &picture::svg(&title, &row))?;
     }
-    Ok(Told::accepted(format!("{title}\n\n{}", row::table(&row))))
+    Ok(Told::accepted(format!("{title}\n\n{}", row::table(&row))).noting(&notes))
 }
 
 pub fn result(given: &[OsString]) -> Result<Told, Failure> {
@@ -38,14 +39,15 @@ pub fn result(given: &[OsString]) -> Result<Told, Failure> {
 }
 
 fn result_of(path: &Path) -> Result<Told, Failure> {
-    let sheet = files::bag_sheet(path)?;
-    match ylhovesko::bags::result(sheet) {
+    let Noted { value: sheet, notes } = files::bag_sheet(path)?;
+    let told = match ylhovesko::bags::result(sheet) {
         Ok(result) => {
             let title = format!("Result of {}, class {}", files::name(path), sheet.class);
-            Ok(Told::accepted(format!("{title}\n\n{}", result_sheet::text(&sheet, &result))))
+            Told::accepted(format!("{title}\n\n{}", result_sheet::text(&sheet, &result)))
         }
-        Err(refusal) => Ok(Told::refused(refusals::line(refusal) + "\n")),
-    }
+        Err(refusal) => Told::refused(refusals::line(refusal) + "\n"),
+    };
+    Ok(told.noting(&notes))
 }
 
 pub fn check(given: &[OsString]) -> Result<Told, Failure> {
@@ -62,10 +64,7 @@ pub fn check(given: &[OsString]) -> Result<Told, Failure> {
     let mut told = Told::default();
     for path in paths {
         // The files after one that cannot be read are judged all the same.
-        told.add(match judge(&path) {
-            Ok(judged) => judged_line(&path.display().to_string(), judged),
-            Err(failure) => Told::failed(failure),
-        });
+        told.add(judge(&path).unwrap_or_else(Told::failed));
     }
     Ok(told)
 }
@@ -77,15 +76,18 @@ fn judged_line(name: &str, judged: Result<(), Refusal>) -> Told {
     }
 }
 
-fn judge(path: &Path) -> Result<Result<(), Refusal>, Failure> {
+fn judge(path: &Path) -> Result<Told, Failure> {
+    let name = path.display().to_string();
     if files::is_trace(path) {
         let trace = files::read(path)?;
-        return Ok(judge_pair(&trace, &trace));
+        return Ok(judged_line(&name, judge_pair(&trace, &trace)));
     }
-    Ok(match files::sheet(path)? {
+    let Noted { value: known, notes } = files::known(path)?;
+    let judged = match known {
         Known::Vehicle(vehicle) => core_gears(&STOP, vehicle, &mut [0; 2], 0),
         Known::Bags(sheet) => ylhovesko::bags::result(*sheet).map(|_| ()),
-    })
+    };
+    Ok(judged_line(&name, judged).noting(&notes))
 }
 
 /// The demo's traces, by name.

@@ -1,7 +1,7 @@
 //! Files in and out, and what is said of one that cannot be read.
 
 use crate::sheet::Sheet;
-use crate::{bags, vehicle, Failure};
+use crate::{bags, lines, vehicle, Failure};
 use std::fs::File;
 use std::io::Read;
 use std::path::Path;
@@ -34,6 +34,33 @@ pub fn write(path: &Path, text: &str) -> Result<(), Failure> {
     std::fs::write(path, text).map_err(|error| Failure::of_file(path, &[format!("cannot be written: {error}")]))
 }
 
+/// What was read of a file, with a line for each note on it.
+pub struct Noted<T> {
+    pub value: T,
+    pub notes: String,
+}
+
+fn noted<T>(path: &Path, (value, notes): (T, Vec<String>)) -> Noted<T> {
+    Noted { value, notes: lines(path, &notes) }
+}
+
+/// The sheet in a file. One that is too long counts as empty, because a value at the cut would be another.
+fn sheet(path: &Path) -> Result<Sheet, Failure> {
+    let bytes = read(path)?;
+    if bytes.len() as u64 > LONGEST {
+        return Ok(Sheet { notes: vec![format!("it is longer than {LONGEST} bytes")], ..Sheet::default() });
+    }
+    Ok(Sheet::read(&bytes))
+}
+
+pub fn vehicle(path: &Path) -> Result<Noted<Vehicle>, Failure> {
+    Ok(noted(path, vehicle::vehicle_of(sheet(path)?)))
+}
+
+pub fn bag_sheet(path: &Path) -> Result<Noted<BagSheet>, Failure> {
+    Ok(noted(path, bags::bag_sheet_of(sheet(path)?)))
+}
+
 /// Either of the two sheets.
 pub enum Known {
     Vehicle(Vehicle),
@@ -41,30 +68,22 @@ pub enum Known {
 }
 
 /// The sheet in a file, of the kind that its first key names.
-pub fn sheet(path: &Path) -> Result<Known, Failure> {
-    let bytes = read(path)?;
-    if bytes.len() as u64 > LONGEST {
-        return Err(Failure::of_file(path, &["cannot be read as a sheet: it is too long".to_string()]));
-    }
-    let sheet = Sheet::read(&bytes).map_err(|complaints| Failure::of_file(path, &complaints))?;
-    let known = match sheet.kind.as_str() {
-        vehicle::KIND => vehicle::vehicle_of(&sheet).map(Known::Vehicle),
-        bags::KIND => bags::bag_sheet_of(&sheet).map(|sheet| Known::Bags(Box::new(sheet))),
-        other => Err(vec![format!("cannot be read as a sheet: 'sheet = {other}' is neither 'vehicle' nor 'bags'")]),
+pub fn known(path: &Path) -> Result<Noted<Known>, Failure> {
+    let sheet = sheet(path)?;
+    let (known, notes) = match sheet.kind.as_deref() {
+        Some(vehicle::KIND) => {
+            let (vehicle, notes) = vehicle::vehicle_of(sheet);
+            (Known::Vehicle(vehicle), notes)
+        }
+        Some(bags::KIND) => {
+            let (bags, notes) = bags::bag_sheet_of(sheet);
+            (Known::Bags(Box::new(bags)), notes)
+        }
+        _ => {
+            let mut notes = sheet.notes;
+            notes.push("its first key is neither 'sheet = vehicle' nor 'sheet = bags'".to_string());
+            return Err(Failure::of_file(path, &notes));
+        }
     };
-    known.map_err(|complaints| Failure::of_file(path, &complaints))
-}
-
-pub fn vehicle(path: &Path) -> Result<Vehicle, Failure> {
-    match sheet(path)? {
-        Known::Vehicle(vehicle) => Ok(vehicle),
-        Known::Bags(_) => Err(Failure::of_file(path, &["cannot be read as a vehicle sheet: it is a bag sheet".to_string()])),
-    }
-}
-
-pub fn bag_sheet(path: &Path) -> Result<BagSheet, Failure> {
-    match sheet(path)? {
-        Known::Bags(sheet) => Ok(*sheet),
-        Known::Vehicle(_) => Err(Failure::of_file(path, &["cannot be read as a bag sheet: it is a vehicle sheet".to_string()])),
-    }
+    Ok(noted(path, (known, notes)))
 }

@@ -32,10 +32,14 @@ impl Failure {
         Failure(format!("{message}; --help says how to use it\n"))
     }
 
-    /// A line for each thing that is wrong with a file.
     pub fn of_file(path: &Path, complaints: &[String]) -> Failure {
-        Failure(complaints.iter().map(|complaint| format!("{}: {complaint}\n", path.display())).collect())
+        Failure(lines(path, complaints))
     }
+}
+
+/// A line for each thing that is said of a file.
+fn lines(path: &Path, words: &[String]) -> String {
+    words.iter().map(|said| format!("{}: {said}\n", path.display())).collect()
 }
 
 /// What a command says on either stream, and its exit code.
@@ -57,6 +61,12 @@ impl Told {
 
     pub fn failed(failure: Failure) -> Told {
         Told { text: String::new(), errors: failure.0, code: UNUSABLE }
+    }
+
+    /// With the notes on the files that were read.
+    pub fn noting(mut self, notes: &str) -> Told {
+        self.errors += notes;
+        self
     }
 
     /// Puts another's words behind these; the graver code counts.

@@ -1,7 +1,8 @@
 //! A sheet's text: lines `key = value`, comments from `#` on, sections in square brackets.
 //!
-//! A value that is missing or malformed is never guessed. It is read as one that lies outside the range of every field of its type, so that the
-//! core refuses it and says where it stands.
+//! A value that is missing, malformed or given twice is never guessed. It is read as one that lies outside the range of every field of its type, so
+//! that the core refuses it and says where it stands. What a sheet holds beside its values is named in a note; it cannot have
+//! been meant for a value, since a sheet that is taken has them all.
 
 use ylhovesko::bags::Reading;
 
@@ -14,23 +15,24 @@ const NO_TEMPERATURE: i32 = i32::MIN;
 
 /// A line `key = value`.
 #[derive(Debug)]
-pub struct Entry {
-    pub key: String,
-    pub value: String,
-    pub line: usize,
+struct Entry {
+    key: String,
+    value: String,
+    line: usize,
 }
 
 /// What stands under one heading, or before the first.
 #[derive(Debug, Default)]
 pub struct Section {
     pub heading: String,
-    pub line: usize,
-    pub entries: Vec<Entry>,
+    line: usize,
+    entries: Vec<Entry>,
 }
 
 impl Section {
     fn value(&self, key: &str) -> Option<&str> {
-        self.entries.iter().find(|entry| entry.key == key).map(|entry| entry.value.as_str())
+        let mut named = self.entries.iter().filter(|entry| entry.key == key);
+        named.next().filter(|_| named.next().is_none()).map(|entry| entry.value.as_str())
     }
 
     pub fn unsigned(&self, key: &str) -> u32 {
@@ -50,17 +52,17 @@ impl Section {
     }
 
     /// Says which lines name a key that is not among the known ones, or one that stood before.
-    fn complaints(&self, known: &[String]) -> Vec<String> {
-        let mut complaints = Vec::new();
+    fn notes(&self, known: &[String]) -> Vec<String> {
+        let mut notes = Vec::new();
         for (i, entry) in self.entries.iter().enumerate() {
             let Entry { key, line, .. } = entry;
             if !known.contains(key) {
-                complaints.push(format!("line {line}: unknown key '{key}'"));
+                notes.push(format!("line {line}: unknown key '{key}'"));
             } else if let Some(first) = self.entries[..i].iter().find(|other| other.key == *key) {
-                complaints.push(format!("line {line}: key '{key}' stands in line {} already", first.line));
+                notes.push(format!("line {line}: key '{key}' stands in line {} already", first.line));
             }
         }
-        complaints
+        notes
     }
 }
 
@@ -90,60 +92,69 @@ fn lowered(words: &str) -> String {
 }
 
 /// A sheet as it is written.
-#[derive(Debug)]
+#[derive(Debug, Default)]
 pub struct Sheet {
-    /// The value of the first key, `sheet`.
-    pub kind: String,
+    /// The value of the first key, where that is `sheet`.
+    pub kind: Option<String>,
     /// What stands before the first heading.
     pub head: Section,
     pub sections: Vec<Section>,
+    /// What was found that is no part of a sheet.
+    pub notes: Vec<String>,
 }
 
 impl Sheet {
-    /// Reads the text of a sheet, or says why it is none.
-    pub fn read(bytes: &[u8]) -> Result<Sheet, Vec<String>> {
-        let Ok(text) = std::str::from_utf8(bytes) else {
-            return Err(vec!["cannot be read as a sheet: it is not UTF-8 text".to_string()]);
-        };
-        let (head, sections) = split(text.trim_start_matches('\u{feff}'))?;
-        match head.entries.first() {
-            Some(first) if first.key == "sheet" => Ok(Sheet { kind: lowered(&first.value), head, sections }),
-            _ => Err(vec!["cannot be read as a sheet: its first key is not 'sheet'".to_string()]),
+    /// Reads the text of a sheet, however damaged.
+    pub fn read(bytes: &[u8]) -> Sheet {
+        let text = String::from_utf8_lossy(bytes);
+        let mut sheet = split(text.trim_start_matches('\u{feff}'));
+        if std::str::from_utf8(bytes).is_err() {
+            sheet.notes.push("it is not UTF-8 text".to_string());
         }
+        let first = sheet.head.entries.first().filter(|entry| entry.key == "sheet");
+        sheet.kind = first.map(|entry| lowered(&entry.value));
+        sheet
     }
 
-    /// Nothing that an operator wrote is passed over: each key has to be known and to stand once.
-    pub fn judge_keys(&self, head: &[String], section: &[String]) -> Result<(), Vec<String>> {
-        let mut complaints = self.head.complaints(head);
-        complaints.extend(self.sections.iter().flat_map(|part| part.complaints(section)));
-        if complaints.is_empty() {
-            return Ok(());
+    /// The sheet where it says that it is of this kind, else one without a value: nothing is taken from what says that it is something else.
+    pub fn of_kind(self, kind: &str) -> Sheet {
+        if self.kind.as_deref() == Some(kind) {
+            return self;
         }
-        Err(complaints)
+        let mut notes = self.notes;
+        notes.push(format!("its first key is not 'sheet = {kind}'"));
+        Sheet { notes, ..Sheet::default() }
+    }
+
+    /// Nothing that an operator wrote is passed over: a key that is not known or stands twice is named.
+    pub fn note_keys(&mut self, head: &[String], section: &[String]) {
+        self.notes.extend(self.head.notes(head));
+        self.notes.extend(self.sections.iter().flat_map(|part| part.notes(section)));
+    }
+
+    /// Names each section that is not as it should be.
+    pub fn note_sections(&mut self, is_good: impl Fn(&Section) -> bool) {
+        let others = self.sections.iter().filter(|section| !is_good(section));
+        self.notes.extend(others.map(|other| format!("line {}: unknown section '[{}]'", other.line, other.heading)));
     }
 }
 
-/// What stands before the first heading, and the sections; or the lines that are neither empty, a heading nor `key = value`.
-fn split(text: &str) -> Result<(Section, Vec<Section>), Vec<String>> {
-    let mut head = Section::default();
-    let mut sections: Vec<Section> = Vec::new();
-    let mut complaints = Vec::new();
+/// What stands before the first heading, and the sections; the lines that are neither empty, a heading nor `key = value` are noted.
+fn split(text: &str) -> Sheet {
+    let mut sheet = Sheet::default();
     for (line, written) in (1..).zip(text.lines()) {
         let said = written.split('#').next().unwrap_or("").trim();
         if said.is_empty() {
             continue;
         }
         if let Some(heading) = said.strip_prefix('[').and_then(|rest| rest.strip_suffix(']')) {
-            sections.push(Section { heading: lowered(heading), line, entries: Vec::new() });
+            sheet.sections.push(Section { heading: lowered(heading), line, entries: Vec::new() });
         } else if let Some((key, value)) = said.split_once('=') {
             let entry = Entry { key: lowered(key), value: value.trim().to_string(), line };
-            sections.last_mut().unwrap_or(&mut head).entries.push(entry);
+            sheet.sections.last_mut().unwrap_or(&mut sheet.head).entries.push(entry);
         } else {
-            complaints.push(format!("line {line}: neither 'key = value' nor '[part 1]': '{said}'"));
+            sheet.notes.push(format!("line {line}: neither 'key = value' nor '[part 1]': '{said}'"));
         }
     }
-    if complaints.is_empty() {
-        return Ok((head, sections));
-    }
-    Err(complaints)
+    sheet
 }

@@ -15,19 +15,19 @@ fn keys() -> Vec<String> {
     fields.into_iter().chain((1..=8).map(ndv_key)).collect()
 }
 
-/// The vehicle that the sheet describes, for the core to judge; or what in it is not of a vehicle sheet.
-pub fn vehicle_of(sheet: &Sheet) -> Result<Vehicle, Vec<String>> {
-    if let Some(section) = sheet.sections.first() {
-        return Err(vec![format!("line {}: a vehicle sheet has no section '[{}]'", section.line, section.heading)]);
-    }
-    sheet.judge_keys(&keys(), &[])?;
+/// The vehicle that the sheet describes, for the core to judge, and what in it is not of a vehicle sheet.
+pub fn vehicle_of(sheet: Sheet) -> (Vehicle, Vec<String>) {
+    let mut sheet = sheet.of_kind(KIND);
+    sheet.note_sections(|_| false);
+    sheet.note_keys(&keys(), &[]);
     let head = &sheet.head;
-    Ok(Vehicle {
+    let vehicle = Vehicle {
         power: head.unsigned("power"),
         mass: head.unsigned("mass"),
         rated: head.unsigned("rated"),
         idle: head.unsigned("idle"),
         gears: head.unsigned("gears"),
         ndv: std::array::from_fn(|i| head.unsigned(&ndv_key(i + 1))),
-    })
+    };
+    (vehicle, sheet.notes)
 }

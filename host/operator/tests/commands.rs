@@ -48,12 +48,12 @@ fn refused(name: &str, bytes: impl AsRef<[u8]>, words: &str) {
     assert_eq!(run.code, Some(1));
 }
 
-/// `check` cannot read the file, and says so with these words.
-fn unreadable(name: &str, bytes: impl AsRef<[u8]>, words: &str) {
+/// As `refused`, and the notes on the file have these words.
+fn refused_with_note(name: &str, bytes: impl AsRef<[u8]>, words: &str, note: &str) {
     let path = stored(name, bytes);
     let run = run(&["check", &path]);
-    assert_eq!((run.out, run.errors), (String::new(), format!("{path}: {words}\n")));
-    assert_eq!(run.code, Some(2));
+    assert_eq!((run.out, run.errors), (format!("{path}: refused: {words}\n"), format!("{path}: {note}\n")));
+    assert_eq!(run.code, Some(1));
 }
 
 #[test]
@@ -120,10 +120,8 @@ fn damaged_values_of_a_test() {
     let count = "10 class not 1 to 3, or wrong number of parts";
     refused("class.bags", with("class = 3", ""), count);
     refused("two.bags", with("class = 3", "class = 2"), count);
-    refused("four.bags", with("[part 3]", "[part 4]"), count);
     refused("twice.bags", with("[part 3]", "[part 2]"), count);
     refused("swapped.bags", with("[part 1]", "[part 3]"), count);
-    refused("unnumbered.bags", with("[part 1]", "[part]"), count);
     refused("bare.bags", "sheet = bags\nclass = 3\n", count);
     refused("triple.bags", with("triple wc = 10\n", ""), "11 bag sheet value, test, field 10 dilution triple");
     refused("fuel.bags", with("fuel co2 = 273", "fuel co2 = x"), "11 bag sheet value, test, field 11 fuel sheet");
@@ -191,23 +189,41 @@ fn readings_in_other_words() {
 }
 
 #[test]
-fn what_is_no_sheet() {
+fn what_a_sheet_does_not_know_is_named() {
     let bags = |from, to| edited("low_nox.bags", from, to);
-    unreadable("unknown.bags", bags("class = 3", "clas = 3"), "line 4: unknown key 'clas'");
-    unreadable("again.bags", bags("class = 3", "class = 3\nclass = 3"), "line 5: key 'class' stands in line 4 already");
-    unreadable("misplaced.bags", bags("class = 3", "class = 3\npump = 4500"), "line 5: unknown key 'pump'");
-    unreadable("section.bags", bags("[part 1]", "[first part]"), "line 21: unknown section '[first part]'");
-    unreadable("line.bags", bags("class = 3", "class 3"), "line 4: neither 'key = value' nor '[part 1]': 'class 3'");
-    let sectioned = edited("annex13.vehicle", "power", "[part 1]\npower");
-    unreadable("section.vehicle", sectioned, "line 3: a vehicle sheet has no section '[part 1]'");
-    unreadable("ninth.vehicle", edited("annex13.vehicle", "ndv 6", "ndv 9"), "line 14: unknown key 'ndv 9'");
-    let first = "cannot be read as a sheet: its first key is not 'sheet'";
-    unreadable("nameless.vehicle", edited("annex13.vehicle", "sheet = vehicle", ""), first);
-    unreadable("empty.bags", "", first);
-    unreadable("binary.bags", [b's', 0xff], "cannot be read as a sheet: it is not UTF-8 text");
-    let other = "cannot be read as a sheet: 'sheet = car' is neither 'vehicle' nor 'bags'";
-    unreadable("car.vehicle", "sheet = car\n", other);
-    unreadable("long.bags", vec![b'#'; 65_537], "cannot be read as a sheet: it is too long");
+    let vehicle = |from, to| edited("annex13.vehicle", from, to);
+    let count = "10 class not 1 to 3, or wrong number of parts";
+    refused_with_note("unknown.bags", bags("class = 3", "clas = 3"), count, "line 4: unknown key 'clas'");
+    refused_with_note("again.bags", bags("class = 3", "class = 3\nclass = 3"), count, "line 5: key 'class' stands in line 4 already");
+    refused_with_note("section.bags", bags("[part 1]", "[first part]"), count, "line 21: unknown section '[first part]'");
+    refused_with_note("four.bags", bags("[part 3]", "[part 4]"), count, "line 67: unknown section '[part 4]'");
+    refused_with_note("line.bags", bags("class = 3", "class 3"), count, "line 4: neither 'key = value' nor '[part 1]': 'class 3'");
+    let sixth = "5 vehicle sheet out of range, field 11 ndv of gear 6";
+    refused_with_note("ninth.vehicle", vehicle("ndv 6", "ndv 9"), sixth, "line 14: unknown key 'ndv 9'");
+    let latin = [b"sheet = vehicle\npower = 72".as_slice(), &[0xb9], b"\n"].concat();
+    refused_with_note("latin.vehicle", latin, "5 vehicle sheet out of range, field 1 power", "it is not UTF-8 text");
+    let path = stored("more.bags", bags("class = 3", "class = 3\nbench = 7"));
+    let told = run(&["check", &path]);
+    assert_eq!((told.out, told.errors), (format!("{path}: accepted\n"), format!("{path}: line 5: unknown key 'bench'\n")));
+}
+
+#[test]
+fn what_is_no_sheet_has_no_value() {
+    let trace = demo().join("part1_normal.wtr").to_str().unwrap().to_string();
+    let nameless = edited("annex13.vehicle", "sheet = vehicle", "");
+    let damaged = [nameless.into_bytes(), demo_text("low_nox.bags").into_bytes(), Vec::new(), vec![b's', 0xff], vec![b'#'; 65_537]];
+    for bytes in damaged {
+        let path = stored("damaged.sheet", bytes);
+        let told = run(&["gears", &trace, &path]);
+        assert_eq!((told.out.as_str(), told.code), ("refused: 5 vehicle sheet out of range, field 1 power\n", Some(1)));
+        assert!(told.errors.ends_with(": its first key is not 'sheet = vehicle'\n"), "{}", told.errors);
+    }
+    let told = run(&["result", &stored("car.bags", edited("low_nox.bags", "sheet = bags", "sheet = car"))]);
+    assert_eq!((told.out.as_str(), told.code), ("refused: 10 class not 1 to 3, or wrong number of parts\n", Some(1)));
+    let path = stored("car.sheet", "sheet = car\n");
+    let told = run(&["check", &path]);
+    let words = format!("{path}: its first key is neither 'sheet = vehicle' nor 'sheet = bags'\n");
+    assert_eq!((told.out.as_str(), told.errors, told.code), ("", words, Some(2)));
 }
 
 #[test]
