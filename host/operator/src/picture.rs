@@ -33,6 +33,15 @@ impl Scale {
         Scale { seconds: row.len().max(1) as f64, fastest: f64::from((fastest / 200 + 1) * 20) }
     }
 
+    /// The seconds from one number of the time axis to the next, so that they stand apart.
+    fn tick(&self) -> usize {
+        match self.seconds {
+            long if long > 1200.0 => 120,
+            middling if middling > 120.0 => 60,
+            _ => 10,
+        }
+    }
+
     fn x(&self, second: f64) -> f64 {
         LEFT + (RIGHT - LEFT) * second / self.seconds
     }
@@ -64,15 +73,14 @@ fn axes(scale: &Scale) -> String {
         text += &line((LEFT - 5.0, scale.y(speed)), (RIGHT, scale.y(speed)), "#dddddd");
         text += &words(LEFT - 10.0, scale.y(speed) + 4.0, "end", &speed.to_string());
     }
-    let step = if scale.seconds > 120.0 { 60 } else { 10 };
-    for second in (0..).step_by(step).map(f64::from).take_while(|second| *second <= scale.seconds) {
+    for second in (0..).step_by(scale.tick()).map(f64::from).take_while(|second| *second <= scale.seconds) {
         text += &line((scale.x(second), BOTTOM), (scale.x(second), BOTTOM + 18.0), "#444444");
         text += &words(scale.x(second), BOTTOM + 32.0, "middle", &second.to_string());
     }
     text += &line((LEFT, BOTTOM), (RIGHT, BOTTOM), "#444444");
     text += &line((LEFT, TOP), (LEFT, BOTTOM), "#444444");
     text += &words((LEFT + RIGHT) / 2.0, BOTTOM + 56.0, "middle", "time, s");
-    text + &words(LEFT - 10.0, TOP - 14.0, "end", "speed, km/h")
+    text + &words(10.0, TOP - 14.0, "start", "speed, km/h")
 }
 
 /// A line for each run of one gear. It begins at the second before, so that the line has no gaps.

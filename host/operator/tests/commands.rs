@@ -227,6 +227,42 @@ fn what_is_no_sheet_has_no_value() {
 }
 
 #[test]
+fn a_limit_between_the_ends_is_undecided() {
+    let path = stored("undecided.bags", edited("low_nox.bags", "limit co = 1000000", "limit co = 586746"));
+    let told = run(&["result", &path]);
+    assert!(told.out.contains("586,746  undecided: the limit lies between the ends\n"), "{}", told.out);
+    assert_eq!(told.code, Some(0));
+}
+
+#[test]
+fn a_test_of_two_parts_has_two() {
+    let text = edited("low_nox.bags", "class = 3", "class = 2");
+    let path = stored("class2.bags", text.split("[part 3]").next().unwrap());
+    let told = run(&["result", &path]);
+    assert!(told.out.contains("\nPart 2 ") && !told.out.contains("\nPart 3 "), "{}", told.out);
+    assert_eq!(told.code, Some(0));
+}
+
+#[test]
+fn a_refused_result_has_no_figures() {
+    let path = stored("refused.bags", edited("low_nox.bags", "air nox = 0.83 ppm", "air nox = over range"));
+    let told = run(&["result", &path]);
+    assert_eq!(told.out, "refused: 12 reading unusable, part 2, NOx, dilution air\n");
+    assert_eq!((told.code, told.errors.as_str()), (Some(1), ""));
+}
+
+#[test]
+fn a_sheet_in_the_place_of_the_other() {
+    let of = |name: &str| demo().join(name).to_str().unwrap().to_string();
+    let told = run(&["result", &of("annex13.vehicle")]);
+    assert!(told.errors.ends_with(": cannot be read as a bag sheet: it is a vehicle sheet\n"), "{}", told.errors);
+    assert_eq!(told.code, Some(2));
+    let told = run(&["gears", &of("part1_normal.wtr"), &of("low_nox.bags")]);
+    assert!(told.errors.ends_with(": cannot be read as a vehicle sheet: it is a bag sheet\n"), "{}", told.errors);
+    assert_eq!(told.code, Some(2));
+}
+
+#[test]
 fn damaged_traces() {
     let trace = fs::read(demo().join("part1_normal.wtr")).unwrap();
     let changed = |at: usize, byte: u8| {
