@@ -57,9 +57,9 @@ impl Section {
         for (i, entry) in self.entries.iter().enumerate() {
             let Entry { key, line, .. } = entry;
             if !known.contains(key) {
-                notes.push(format!("line {line}: unknown key '{key}'"));
+                notes.push(format!("line {line}: unknown key {}", quoted(key)));
             } else if let Some(first) = self.entries[..i].iter().find(|other| other.key == *key) {
-                notes.push(format!("line {line}: key '{key}' stands in line {} already", first.line));
+                notes.push(format!("line {line}: key {} stands in line {} already", quoted(key), first.line));
             }
         }
         notes
@@ -89,6 +89,11 @@ fn decimal(number: &str) -> Option<f32> {
 /// In small letters, with one space between words.
 fn lowered(words: &str) -> String {
     words.split_whitespace().collect::<Vec<_>>().join(" ").to_ascii_lowercase()
+}
+
+/// A sheet's own words in a note, in quotes; what would move a terminal's cursor is spelt out.
+fn quoted(words: &str) -> String {
+    format!("'{}'", words.escape_debug())
 }
 
 /// A sheet as it is written.
@@ -135,7 +140,7 @@ impl Sheet {
     /// Names each section that is not as it should be.
     pub fn note_sections(&mut self, is_good: impl Fn(&Section) -> bool) {
         let others = self.sections.iter().filter(|section| !is_good(section));
-        self.notes.extend(others.map(|other| format!("line {}: unknown section '[{}]'", other.line, other.heading)));
+        self.notes.extend(others.map(|other| format!("line {}: unknown section {}", other.line, quoted(&other.heading))));
     }
 }
 
@@ -153,7 +158,7 @@ fn split(text: &str) -> Sheet {
             let entry = Entry { key: lowered(key), value: value.trim().to_string(), line };
             sheet.sections.last_mut().unwrap_or(&mut sheet.head).entries.push(entry);
         } else {
-            sheet.notes.push(format!("line {line}: neither 'key = value' nor '[part 1]': '{said}'"));
+            sheet.notes.push(format!("line {line}: neither 'key = value' nor '[part 1]': {}", quoted(said)));
         }
     }
     sheet

@@ -189,14 +189,22 @@ fn readings_in_other_words() {
 }
 
 #[test]
+fn sheets_of_other_editors() {
+    let text = format!("\u{feff}{}", demo_text("annex13.vehicle").replace('\n', "\r\n").replace(" = ", "="));
+    let path = stored("editor.vehicle", text);
+    assert_eq!(run(&["check", &path]).out, format!("{path}: accepted\n"));
+}
+
+#[test]
 fn what_a_sheet_does_not_know_is_named() {
     let bags = |from, to| edited("low_nox.bags", from, to);
     let vehicle = |from, to| edited("annex13.vehicle", from, to);
     let count = "10 class not 1 to 3, or wrong number of parts";
     refused_with_note("unknown.bags", bags("class = 3", "clas = 3"), count, "line 4: unknown key 'clas'");
+    refused_with_note("cursor.bags", bags("class = 3", "\u{1b}[2J = 3"), count, "line 4: unknown key '\\u{1b}[2j'");
     refused_with_note("again.bags", bags("class = 3", "class = 3\nclass = 3"), count, "line 5: key 'class' stands in line 4 already");
-    refused_with_note("section.bags", bags("[part 1]", "[first part]"), count, "line 21: unknown section '[first part]'");
-    refused_with_note("four.bags", bags("[part 3]", "[part 4]"), count, "line 67: unknown section '[part 4]'");
+    refused_with_note("section.bags", bags("[part 1]", "[first part]"), count, "line 21: unknown section 'first part'");
+    refused_with_note("four.bags", bags("[part 3]", "[part 4]"), count, "line 67: unknown section 'part 4'");
     refused_with_note("line.bags", bags("class = 3", "class 3"), count, "line 4: neither 'key = value' nor '[part 1]': 'class 3'");
     let sixth = "5 vehicle sheet out of range, field 11 ndv of gear 6";
     refused_with_note("ninth.vehicle", vehicle("ndv 6", "ndv 9"), sixth, "line 14: unknown key 'ndv 9'");
@@ -218,6 +226,8 @@ fn what_is_no_sheet_has_no_value() {
         assert_eq!((told.out.as_str(), told.code), ("refused: 5 vehicle sheet out of range, field 1 power\n", Some(1)));
         assert!(told.errors.ends_with(": its first key is not 'sheet = vehicle'\n"), "{}", told.errors);
     }
+    let told = run(&["result", demo().join("annex13.vehicle").to_str().unwrap()]);
+    assert_eq!((told.out.as_str(), told.code), ("refused: 10 class not 1 to 3, or wrong number of parts\n", Some(1)));
     let told = run(&["result", &stored("car.bags", edited("low_nox.bags", "sheet = bags", "sheet = car"))]);
     assert_eq!((told.out.as_str(), told.code), ("refused: 10 class not 1 to 3, or wrong number of parts\n", Some(1)));
     let path = stored("car.sheet", "sheet = car\n");
@@ -249,17 +259,6 @@ fn a_refused_result_has_no_figures() {
     let told = run(&["result", &path]);
     assert_eq!(told.out, "refused: 12 reading unusable, part 2, NOx, dilution air\n");
     assert_eq!((told.code, told.errors.as_str()), (Some(1), ""));
-}
-
-#[test]
-fn a_sheet_in_the_place_of_the_other() {
-    let of = |name: &str| demo().join(name).to_str().unwrap().to_string();
-    let told = run(&["result", &of("annex13.vehicle")]);
-    assert!(told.errors.ends_with(": cannot be read as a bag sheet: it is a vehicle sheet\n"), "{}", told.errors);
-    assert_eq!(told.code, Some(2));
-    let told = run(&["gears", &of("part1_normal.wtr"), &of("low_nox.bags")]);
-    assert!(told.errors.ends_with(": cannot be read as a vehicle sheet: it is a bag sheet\n"), "{}", told.errors);
-    assert_eq!(told.code, Some(2));
 }
 
 #[test]
