@@ -2,7 +2,9 @@
 
 use std::fmt;
 
-use plain::bags::{Figure, Message};
+use plain::bags::{Figure, Message, PartResult, TestResult};
+use plain::exact::{exact, ExactPart, ExactTest};
+use plain::fraction::Fraction;
 use ylhovesko::bags::{Ends, Fuel, Gases, Part, Reading, Sheet, Triple, Verdict};
 
 use crate::random::Random;
@@ -121,7 +123,12 @@ fn in_order(weighted: [Pair; 4], verdicts: [i128; 4], fuel: Pair, parts: impl It
 
 /// What the proved core says.
 pub fn by_core(sheet: &Sheet) -> Answer {
-    let result = match ylhovesko::bags::result(*sheet) {
+    told(sheet, ylhovesko::bags::result(*sheet))
+}
+
+/// An answer in the core's types.
+pub fn told(sheet: &Sheet, answer: Result<ylhovesko::bags::TestResult, ylhovesko::Refusal>) -> Answer {
+    let result = match answer {
         Ok(result) => result,
         Err(refusal) => return (core_told(Err(refusal)), Vec::new()),
     };
@@ -140,24 +147,31 @@ pub fn by_core(sheet: &Sheet) -> Answer {
 
 /// What the second implementation says, and whether each exact figure lies between its ends.
 pub fn by_plain(sheet: &Sheet) -> (Answer, bool) {
-    let result = match plain::bags::test(&plain_sheet(sheet)) {
+    let sheet = plain_sheet(sheet);
+    let result = match plain::bags::test(&sheet) {
         Ok(result) => result,
         Err(refusal) => return ((plain_told(Err(refusal)), Vec::new()), true),
-    };
-    let mut holds = true;
-    let mut pair = |figure: Figure| {
-        holds &= figure.exact.between(figure.lower, figure.upper);
-        (figure.lower, figure.upper)
     };
     let verdicts = result.verdicts.map(|verdict| match verdict {
         plain::bags::Verdict::Pass => 0,
         plain::bags::Verdict::Fail => 1,
         plain::bags::Verdict::Undecided => 2,
     });
-    let (weighted, fuel) = (result.weighted.map(&mut pair), pair(result.fuel));
-    let parts = result.parts.iter().map(|part| (pair(part.volume), part.mass.map(&mut pair), part.rate.map(&mut pair)));
-    let figures = in_order(weighted, verdicts, fuel, parts);
-    ((plain_told(Ok(())), figures), holds)
+    let pair = |figure: Figure| (figure.lower, figure.upper);
+    let parts = result.parts.iter().map(|part| (pair(part.volume), part.mass.map(pair), part.rate.map(pair)));
+    let figures = in_order(result.weighted.map(pair), verdicts, pair(result.fuel), parts);
+    ((plain_told(Ok(())), figures), holds_exact(&result, &exact(&sheet)))
+}
+
+/// Whether each exact figure lies between its ends.
+fn holds_exact(result: &TestResult, exact: &ExactTest) -> bool {
+    let between = |figure: &Figure, exact: &Fraction| exact.between(figure.lower, figure.upper);
+    let all = |figures: &[Figure; 4], exact: &[Fraction; 4]| figures.iter().zip(exact).all(|(figure, exact)| between(figure, exact));
+    let of_part = |(part, exact): (&PartResult, &ExactPart)| {
+        between(&part.volume, &exact.volume) && all(&part.mass, &exact.mass) && all(&part.rate, &exact.rate)
+    };
+    let parts = result.parts.len() == exact.parts.len() && result.parts.iter().zip(&exact.parts).all(of_part);
+    parts && all(&result.weighted, &exact.weighted) && between(&result.fuel, &exact.fuel)
 }
 
 fn plain_message(reading: Reading) -> Message {
@@ -186,7 +200,8 @@ fn plain_part(p: &Part) -> plain::bags::Part {
     }
 }
 
-fn plain_sheet(s: &Sheet) -> plain::bags::Sheet {
+/// The sheet as the second implementation takes it.
+pub fn plain_sheet(s: &Sheet) -> plain::bags::Sheet {
     plain::bags::Sheet {
         class: s.class,
         count: s.count,

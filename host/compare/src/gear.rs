@@ -42,7 +42,8 @@ pub fn by_plain(case: &Case) -> (Told, Vec<u8>) {
     (plain_told(told), buffer)
 }
 
-fn plain_vehicle(v: &Vehicle) -> plain::gear::Vehicle {
+/// The vehicle as the second implementation takes it.
+pub fn plain_vehicle(v: &Vehicle) -> plain::gear::Vehicle {
     plain::gear::Vehicle { p: v.power, m: v.mass, s: v.rated, n: v.idle, ng: v.gears, ndv: v.ndv }
 }
 

@@ -1,6 +1,5 @@
 //! The emission sheet (01, Bag sheet and figures), refusals 10 to 14. Gases go HC, CO, NOx, CO2.
 
-use crate::exact::Fraction;
 use crate::{at, check, nowhere, Refusal};
 
 /// "The analyser's message, which is ppm with a 32-bit float, percent with a 32-bit float, over range, or not fitted."
@@ -43,31 +42,28 @@ pub struct Sheet {
     pub parts: [Part; 3],
 }
 
-/// A figure: "a lower end rounded down and an upper end rounded up", and beside them what it is with no rounding after the readings' units.
+/// A figure: "a lower end rounded down and an upper end rounded up".
 #[derive(Clone, Copy, Debug)]
 pub struct Figure {
     pub lower: i128,
     pub upper: i128,
-    pub exact: Fraction,
-}
-
-/// Rounded down, and up.
-fn rounded(lower: i128, upper: i128, divisor: i128) -> (i128, i128) {
-    (lower.div_euclid(divisor), -(-upper).div_euclid(divisor))
 }
 
 impl Figure {
+    /// A stage that divides: rounded down, and up.
+    fn over(lower: i128, upper: i128, divisor: i128) -> Figure {
+        Figure { lower: lower.div_euclid(divisor), upper: -(-upper).div_euclid(divisor) }
+    }
+
     /// A stage of whole numbers alone.
     fn of(numerator: i128, divisor: i128) -> Figure {
-        let (lower, upper) = rounded(numerator, numerator, divisor);
-        Figure { lower, upper, exact: Fraction::new(numerator, divisor) }
+        Figure::over(numerator, numerator, divisor)
     }
 
     /// "A product of ends takes the smallest and largest outcome"; then divided.
     fn times(self, other: Figure, divisor: i128) -> Figure {
         let outcomes = [self.lower * other.lower, self.lower * other.upper, self.upper * other.lower, self.upper * other.upper];
-        let (lower, upper) = rounded(*outcomes.iter().min().unwrap(), *outcomes.iter().max().unwrap(), divisor);
-        Figure { lower, upper, exact: self.exact.times(other.exact).times(Fraction::new(1, divisor)) }
+        Figure::over(*outcomes.iter().min().unwrap(), *outcomes.iter().max().unwrap(), divisor)
     }
 
     /// Multiplied by a number that is not negative, and divided.
@@ -80,9 +76,7 @@ impl Figure {
 fn combined(terms: &[(u32, Figure)], divisor: i128) -> Figure {
     let lower = terms.iter().map(|(factor, figure)| i128::from(*factor) * figure.lower).sum();
     let upper = terms.iter().map(|(factor, figure)| i128::from(*factor) * figure.upper).sum();
-    let (lower, upper) = rounded(lower, upper, divisor);
-    let exact = terms.iter().map(|(factor, figure)| figure.exact.times(Fraction::new(i128::from(*factor), divisor)));
-    Figure { lower, upper, exact: exact.reduce(Fraction::plus).unwrap() }
+    Figure::over(lower, upper, divisor)
 }
 
 /// "Nearest, halves up, from the float's exact value": the float times `each`. Nothing where the message is unusable.
@@ -156,13 +150,13 @@ fn judge_part(place: u32, p: &Part) -> Result<(), Refusal> {
 }
 
 /// The readings of a part in units.
-struct Readings {
-    bag: [i128; 4],
-    air: [i128; 4],
+pub(crate) struct Readings {
+    pub bag: [i128; 4],
+    pub air: [i128; 4],
 }
 
 /// Refusal 12 of a part: gas by gas, the bag before the air.
-fn readings(place: u32, p: &Part) -> Result<Readings, Refusal> {
+pub(crate) fn readings(place: u32, p: &Part) -> Result<Readings, Refusal> {
     let mut readings = Readings { bag: [0; 4], air: [0; 4] };
     for gas in 0..4 {
         let unusable = |side| Refusal { within: gas as u32 + 1, side, ..at(12, place) };
@@ -173,18 +167,18 @@ fn readings(place: u32, p: &Part) -> Result<Readings, Refusal> {
 }
 
 /// "G = 10 CO2 + wc CO + wh HC in bag units."
-fn g(s: &Sheet, r: &Readings) -> i128 {
+pub(crate) fn g(s: &Sheet, r: &Readings) -> i128 {
     let [hc, co, _, co2] = r.bag;
     10 * co2 + i128::from(s.wc) * co + i128::from(s.wh) * hc
 }
 
 /// "Q = 2,560,000 D."
-fn q(s: &Sheet) -> i128 {
+pub(crate) fn q(s: &Sheet) -> i128 {
     2_560_000 * i128::from(s.d)
 }
 
 /// g and B of the humidity, in mPa.
-fn pressures(p: &Part) -> (i128, i128) {
+pub(crate) fn pressures(p: &Part) -> (i128, i128) {
     let vapour = i128::from(p.humidity) * i128::from(p.saturation);
     (vapour, 1000 * i128::from(p.pa) - vapour)
 }
@@ -229,7 +223,7 @@ fn part_result(s: &Sheet, p: &Part, r: &Readings) -> PartResult {
     PartResult { volume, mass, rate: mass.map(|mass| mass.scaled(1000, i128::from(p.distance))) }
 }
 
-const NOX: usize = 2;
+pub(crate) const NOX: usize = 2;
 
 #[derive(Clone, Copy, Debug, PartialEq, Eq)]
 pub enum Verdict {
@@ -259,7 +253,7 @@ pub struct TestResult {
 }
 
 /// "Class 1, parts 50 and 50 percent; class 2, 30 and 70; class 3, 25, 50 and 25."
-fn weights(class: u32) -> &'static [u32] {
+pub(crate) fn weights(class: u32) -> &'static [u32] {
     match class {
         1 => &[50, 50],
         2 => &[30, 70],

@@ -1,130 +1,70 @@
-//! Fractions of whole numbers that are wide enough for every figure of the emission sheet.
+//! The figures of a test as fractions: what they are with no rounding after the readings' units.
 
-use std::cmp::Ordering;
+use crate::bags::{g, pressures, q, readings, weights, Part, Readings, Sheet, NOX};
+use crate::fraction::Fraction;
 
-/// A fraction that nothing reduces. The widest is a weighted NOx over three parts, of about 600 bits; a product that does not fit stops the run.
-#[derive(Clone, Copy, Debug)]
-pub struct Fraction {
-    numerator: Wide,
-    /// Above zero.
-    denominator: Wide,
+/// The figures of a part, in the units of [`crate::bags::PartResult`].
+pub struct ExactPart {
+    pub volume: Fraction,
+    pub mass: [Fraction; 4],
+    pub rate: [Fraction; 4],
 }
 
-impl Fraction {
-    pub fn new(numerator: i128, denominator: i128) -> Fraction {
-        assert!(denominator > 0);
-        Fraction { numerator: Wide::from(numerator), denominator: Wide::from(denominator) }
-    }
-
-    /// ```
-    /// use plain::exact::Fraction;
-    /// let sixth = Fraction::new(-1, 2).plus(Fraction::new(1, 3));
-    /// assert!(sixth.between(-1, 0) && !sixth.between(0, 1));
-    /// ```
-    pub fn plus(self, other: Fraction) -> Fraction {
-        if self.denominator == other.denominator {
-            return Fraction { numerator: self.numerator.plus(other.numerator), denominator: self.denominator };
-        }
-        Fraction {
-            numerator: self.numerator.times(other.denominator).plus(other.numerator.times(self.denominator)),
-            denominator: self.denominator.times(other.denominator),
-        }
-    }
-
-    pub fn times(self, other: Fraction) -> Fraction {
-        Fraction { numerator: self.numerator.times(other.numerator), denominator: self.denominator.times(other.denominator) }
-    }
-
-    /// Whether it is at least the one and at most the other.
-    pub fn between(self, lower: i128, upper: i128) -> bool {
-        let multiple = |n: i128| Wide::from(n).times(self.denominator);
-        multiple(lower).cmp(self.numerator) != Ordering::Greater && multiple(upper).cmp(self.numerator) != Ordering::Less
-    }
+/// The figures of a test, in the units of [`crate::bags::TestResult`].
+pub struct ExactTest {
+    pub parts: Vec<ExactPart>,
+    pub weighted: [Fraction; 4],
+    pub fuel: Fraction,
 }
 
-const WORDS: usize = 12;
-
-/// A whole number: its sign, and its magnitude in words, the lowest first. Zero is not negative.
-#[derive(Clone, Copy, Debug, PartialEq, Eq)]
-struct Wide {
-    negative: bool,
-    words: [u64; WORDS],
+/// Pump volume times revolutions, brought to the reference state; both temperatures are doubled tenths of a kelvin.
+fn volume(p: &Part) -> Fraction {
+    let swept = i128::from(p.pump) * i128::from(p.revolutions) * (i128::from(p.pa) - i128::from(p.pi));
+    Fraction::new(5863 * swept, 101_325 * (2 * i128::from(p.t) + 5463))
 }
 
-impl Wide {
-    fn from(n: i128) -> Wide {
-        let magnitude = n.unsigned_abs();
-        let mut words = [0; WORDS];
-        words[0] = magnitude as u64;
-        words[1] = (magnitude >> 64) as u64;
-        Wide { negative: n < 0, words }
-    }
-
-    fn new(negative: bool, words: [u64; WORDS]) -> Wide {
-        Wide { negative: negative && words != [0; WORDS], words }
-    }
-
-    fn times(self, other: Wide) -> Wide {
-        let used = |words: &[u64; WORDS]| WORDS - words.iter().rev().take_while(|&&word| word == 0).count();
-        let (few, many) = (used(&self.words), used(&other.words));
-        assert!(few + many <= WORDS, "a product that does not fit");
-        let mut words = [0; WORDS];
-        for i in 0..few {
-            let mut carry = 0;
-            for j in 0..many {
-                let sum = u128::from(self.words[i]) * u128::from(other.words[j]) + u128::from(words[i + j]) + carry;
-                words[i + j] = sum as u64;
-                carry = sum >> 64;
-            }
-            if many > 0 {
-                words[i + many] = carry as u64;
-            }
-        }
-        Wide::new(self.negative != other.negative, words)
-    }
-
-    fn plus(self, other: Wide) -> Wide {
-        if self.negative == other.negative {
-            return Wide::new(self.negative, sum(&self.words, &other.words));
-        }
-        match by_size(&self.words, &other.words) {
-            Ordering::Less => Wide::new(other.negative, difference(&other.words, &self.words)),
-            _ => Wide::new(self.negative, difference(&self.words, &other.words)),
-        }
-    }
-
-    fn cmp(self, other: Wide) -> Ordering {
-        match (self.negative, other.negative) {
-            (true, false) => Ordering::Less,
-            (false, true) => Ordering::Greater,
-            (false, false) => by_size(&self.words, &other.words),
-            (true, true) => by_size(&other.words, &self.words),
-        }
-    }
+/// Bag less air times (1 - 1/DF), in units of 1/256 ppm; 1/DF is G/Q.
+fn concentration(bag: i128, air: i128, g: i128, q: i128) -> Fraction {
+    Fraction::new(bag * q - air * (q - g), q)
 }
 
-fn by_size(a: &[u64; WORDS], b: &[u64; WORDS]) -> Ordering {
-    a.iter().rev().cmp(b.iter().rev())
+/// 1 / (1 - 0.0329 (H - 10.7)) with H = 6,211 g / (10 B).
+fn kh(p: &Part) -> Fraction {
+    let (vapour, dry) = pressures(p);
+    Fraction::new(1_000_000 * dry, 1_352_030 * dry - 20_434_190 * vapour)
 }
 
-fn sum(a: &[u64; WORDS], b: &[u64; WORDS]) -> [u64; WORDS] {
-    let mut carry = 0;
-    let words = std::array::from_fn(|i| {
-        let sum = u128::from(a[i]) + u128::from(b[i]) + carry;
-        carry = sum >> 64;
-        sum as u64
+fn exact_part(s: &Sheet, p: &Part, r: &Readings) -> ExactPart {
+    let (g, q, volume) = (g(s, r), q(s), volume(p));
+    let mass = std::array::from_fn(|gas| {
+        // ml, times parts of 1/(256 x 10^6), times mg in 10^6 ml, in micrograms
+        let density = Fraction::new(i128::from(p.density[gas]), 256 * 1_000_000_000);
+        let mass = volume.times(concentration(r.bag[gas], r.air[gas], g, q)).times(density);
+        if gas == NOX {
+            mass.times(kh(p))
+        } else {
+            mass
+        }
     });
-    assert!(carry == 0, "a sum that does not fit");
-    words
+    let rate = mass.map(|mass| mass.times(Fraction::new(1000, i128::from(p.distance))));
+    ExactPart { volume, mass, rate }
 }
 
-/// Of a larger number and a smaller one.
-fn difference(a: &[u64; WORDS], b: &[u64; WORDS]) -> [u64; WORDS] {
-    let mut borrow = false;
-    std::array::from_fn(|i| {
-        let (word, under) = a[i].overflowing_sub(b[i]);
-        let (word, again) = word.overflowing_sub(u64::from(borrow));
-        borrow = under || again;
-        word
-    })
+/// The sum of some, which are not none.
+fn sum(each: impl Iterator<Item = Fraction>) -> Fraction {
+    each.reduce(Fraction::plus).unwrap()
+}
+
+/// The exact figures of a sheet that [`crate::bags::test`] accepts.
+pub fn exact(s: &Sheet) -> ExactTest {
+    let of_part = |(place, part)| exact_part(s, part, &readings(place, part).unwrap());
+    let parts: Vec<ExactPart> = (1..).zip(&s.parts[..s.count as usize]).map(of_part).collect();
+    let weighted: [Fraction; 4] = std::array::from_fn(|gas| {
+        let weigh = |(&weight, part): (&u32, &ExactPart)| part.rate[gas].times(Fraction::new(i128::from(weight), 100));
+        sum(weights(s.class).iter().zip(&parts).map(weigh))
+    });
+    let [hc, co, _, co2] = weighted;
+    let carbon = |(f, gas): (u32, Fraction)| gas.times(Fraction::new(i128::from(f), 1));
+    let burnt = sum(s.f.into_iter().zip([hc, co, co2]).map(carbon));
+    ExactTest { parts, weighted, fuel: burnt.times(Fraction::new(i128::from(s.k), 10_000 * i128::from(s.fuel_density))) }
 }

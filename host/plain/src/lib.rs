@@ -5,6 +5,7 @@
 
 pub mod bags;
 pub mod exact;
+pub mod fraction;
 pub mod gear;
 pub mod trace;
 

@@ -1,0 +1,130 @@
+//! Fractions of whole numbers that are wide enough for every figure of the emission sheet.
+
+use std::cmp::Ordering;
+
+/// A fraction that nothing reduces. The widest is a weighted NOx over three parts, of about 600 bits; a product that does not fit stops the run.
+#[derive(Clone, Copy, Debug)]
+pub struct Fraction {
+    numerator: Wide,
+    /// Above zero.
+    denominator: Wide,
+}
+
+impl Fraction {
+    pub fn new(numerator: i128, denominator: i128) -> Fraction {
+        assert!(denominator > 0);
+        Fraction { numerator: Wide::from(numerator), denominator: Wide::from(denominator) }
+    }
+
+    /// ```
+    /// use plain::fraction::Fraction;
+    /// let sixth = Fraction::new(-1, 2).plus(Fraction::new(1, 3));
+    /// assert!(sixth.between(-1, 0) && !sixth.between(0, 1));
+    /// ```
+    pub fn plus(self, other: Fraction) -> Fraction {
+        if self.denominator == other.denominator {
+            return Fraction { numerator: self.numerator.plus(other.numerator), denominator: self.denominator };
+        }
+        Fraction {
+            numerator: self.numerator.times(other.denominator).plus(other.numerator.times(self.denominator)),
+            denominator: self.denominator.times(other.denominator),
+        }
+    }
+
+    pub fn times(self, other: Fraction) -> Fraction {
+        Fraction { numerator: self.numerator.times(other.numerator), denominator: self.denominator.times(other.denominator) }
+    }
+
+    /// Whether it is at least the one and at most the other.
+    pub fn between(self, lower: i128, upper: i128) -> bool {
+        let multiple = |n: i128| Wide::from(n).times(self.denominator);
+        multiple(lower).cmp(self.numerator) != Ordering::Greater && multiple(upper).cmp(self.numerator) != Ordering::Less
+    }
+}
+
+const WORDS: usize = 12;
+
+/// A whole number: its sign, and its magnitude in words, the lowest first. Zero is not negative.
+#[derive(Clone, Copy, Debug, PartialEq, Eq)]
+struct Wide {
+    negative: bool,
+    words: [u64; WORDS],
+}
+
+impl Wide {
+    fn from(n: i128) -> Wide {
+        let magnitude = n.unsigned_abs();
+        let mut words = [0; WORDS];
+        words[0] = magnitude as u64;
+        words[1] = (magnitude >> 64) as u64;
+        Wide { negative: n < 0, words }
+    }
+
+    fn new(negative: bool, words: [u64; WORDS]) -> Wide {
+        Wide { negative: negative && words != [0; WORDS], words }
+    }
+
+    fn times(self, other: Wide) -> Wide {
+        let used = |words: &[u64; WORDS]| WORDS - words.iter().rev().take_while(|&&word| word == 0).count();
+        let (few, many) = (used(&self.words), used(&other.words));
+        assert!(few + many <= WORDS, "a product that does not fit");
+        let mut words = [0; WORDS];
+        for i in 0..few {
+            let mut carry = 0;
+            for j in 0..many {
+                let sum = u128::from(self.words[i]) * u128::from(other.words[j]) + u128::from(words[i + j]) + carry;
+                words[i + j] = sum as u64;
+                carry = sum >> 64;
+            }
+            if many > 0 {
+                words[i + many] = carry as u64;
+            }
+        }
+        Wide::new(self.negative != other.negative, words)
+    }
+
+    fn plus(self, other: Wide) -> Wide {
+        if self.negative == other.negative {
+            return Wide::new(self.negative, sum(&self.words, &other.words));
+        }
+        match by_size(&self.words, &other.words) {
+            Ordering::Less => Wide::new(other.negative, difference(&other.words, &self.words)),
+            _ => Wide::new(self.negative, difference(&self.words, &other.words)),
+        }
+    }
+
+    fn cmp(self, other: Wide) -> Ordering {
+        match (self.negative, other.negative) {
+            (true, false) => Ordering::Less,
+            (false, true) => Ordering::Greater,
+            (false, false) => by_size(&self.words, &other.words),
+            (true, true) => by_size(&other.words, &self.words),
+        }
+    }
+}
+
+fn by_size(a: &[u64; WORDS], b: &[u64; WORDS]) -> Ordering {
+    a.iter().rev().cmp(b.iter().rev())
+}
+
+fn sum(a: &[u64; WORDS], b: &[u64; WORDS]) -> [u64; WORDS] {
+    let mut carry = 0;
+    let words = std::array::from_fn(|i| {
+        let sum = u128::from(a[i]) + u128::from(b[i]) + carry;
+        carry = sum >> 64;
+        sum as u64
+    });
+    assert!(carry == 0, "a sum that does not fit");
+    words
+}
+
+/// Of a larger number and a smaller one.
+fn difference(a: &[u64; WORDS], b: &[u64; WORDS]) -> [u64; WORDS] {
+    let mut borrow = false;
+    std::array::from_fn(|i| {
+        let (word, under) = a[i].overflowing_sub(b[i]);
+        let (word, again) = word.overflowing_sub(u64::from(borrow));
+        borrow = under || again;
+        word
+    })
+}
