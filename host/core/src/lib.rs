@@ -13,6 +13,9 @@ mod calls;
 #[path = "piped.rs"]
 mod calls;
 
+/// Whether the core is linked into this program. Where it is not, each call goes through pipes, which takes far longer than the core.
+pub const LINKED: bool = cfg!(linked);
+
 /// Why an input was refused, and where: a row of the paper's table. 0 stands where the table has no place.
 #[derive(Clone, Copy, Debug, PartialEq, Eq)]
 pub struct Refusal {

@@ -1,0 +1,89 @@
+//! Times the core against plain Rust on the same input in the same run; host/benchmark builds and starts it.
+
+use std::hint::black_box;
+use std::time::Instant;
+
+use bench::inputs::{sheets, traces, MACHINE};
+use compare::bags::plain_sheet;
+use compare::gear::plain_vehicle;
+
+const ROUNDS: usize = 200;
+const LENGTHS: [u16; 5] = [250, 500, 1000, 1800, 2000];
+const SHEETS: usize = 1000;
+
+/// Nanoseconds of one run of each program, the least of all rounds. The programs take turns in a round, so that what slows the machine slows all.
+fn least<const N: usize>(mut programs: [&mut dyn FnMut(); N]) -> [f64; N] {
+    let mut least = [f64::MAX; N];
+    for _ in 0..ROUNDS {
+        for (program, least) in programs.iter_mut().zip(&mut least) {
+            let start = Instant::now();
+            program();
+            *least = least.min(start.elapsed().as_nanos() as f64);
+        }
+    }
+    least
+}
+
+/// A row of a table: how many each program gives in a second, and the core's time as a multiple of the others'.
+fn print_row(head: &str, each: usize, [core, quick, plain]: [f64; 3]) {
+    let rate = |time: f64| 1e9 * each as f64 / time;
+    let (quick_ratio, plain_ratio) = (core / quick, core / plain);
+    println!("|{head} {:.0} | {:.0} | {:.0} | {quick_ratio:.2} | {plain_ratio:.2} |", rate(core), rate(quick), rate(plain));
+}
+
+/// Gear rows, and the nanoseconds that a second of the trace takes the core and the quick program.
+fn time_gears() {
+    println!("| trace | seconds | ns a second, core | quick | rows/s, core | quick | plain | core to quick | core to plain |");
+    println!("|---|---|---|---|---|---|---|---|---|");
+    let plain = plain_vehicle(&MACHINE);
+    for count in LENGTHS {
+        for (kind, traces) in traces(count) {
+            let rows = || vec![vec![0; 2 * usize::from(count)]; traces.len()];
+            let [mut by_core, mut by_quick, mut by_plain] = [rows(), rows(), rows()];
+            let each = |rows: &mut Vec<Vec<u8>>, write: &dyn Fn(&[u8], &mut [u8])| {
+                traces.iter().zip(rows).for_each(|(trace, row)| write(black_box(trace), row));
+            };
+            let times = least([
+                &mut || each(&mut by_core, &|trace, row| ylhovesko::gear::gears(trace, MACHINE, row, 0).unwrap()),
+                &mut || each(&mut by_quick, &|trace, row| bench::gear::write_gears(trace, &MACHINE, row, 0).unwrap()),
+                &mut || each(&mut by_plain, &|trace, row| plain::gear::write_gears(trace, &plain, row, 0).unwrap()),
+            ]);
+            assert!(by_core == by_quick && by_core == by_plain, "{kind}, {count} seconds: the rows differ");
+            let a_second = |time: f64| time / (traces.len() * usize::from(count)) as f64;
+            let head = format!(" {kind} | {count} | {:.1} | {:.1} |", a_second(times[0]), a_second(times[1]));
+            print_row(&head, traces.len(), times);
+        }
+    }
+}
+
+/// Takes what the compiler must have worked out.
+fn consume<T>(value: T) {
+    let _ = black_box(&value);
+}
+
+/// Results of tests.
+fn time_results() {
+    println!("| results/s, core | quick | plain | core to quick | core to plain |");
+    println!("|---|---|---|---|---|");
+    let sheets = sheets(SHEETS);
+    let plain_sheets: Vec<_> = sheets.iter().map(plain_sheet).collect();
+    for sheet in &sheets {
+        assert_eq!(ylhovesko::bags::result(*sheet), bench::bags::result(sheet));
+    }
+    let times = least([
+        &mut || sheets.iter().for_each(|sheet| consume(ylhovesko::bags::result(*black_box(sheet)))),
+        &mut || sheets.iter().for_each(|sheet| consume(bench::bags::result(black_box(sheet)))),
+        &mut || plain_sheets.iter().for_each(|sheet| consume(plain::bags::test(black_box(sheet)))),
+    ]);
+    print_row("", SHEETS, times);
+}
+
+fn main() {
+    if !ylhovesko::LINKED {
+        eprintln!("bench: the core answers through pipes here, which would be timed with it; start host/benchmark");
+        std::process::exit(2);
+    }
+    time_gears();
+    println!();
+    time_results();
+}
