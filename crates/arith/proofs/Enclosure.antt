@@ -88,8 +88,8 @@ module _ {a b : Ends} {p q : Fraction} (h : Between a p) (k : Between b q) where
   sum-holds =
       record {
         positive = mul-pos (k .positive) (h .positive);
-        above = rw (mul-add, first (a .lower), last (b .lower)) (add-mono (times-q (h .above)) (times-p (k .above)));
-        below = rw (mul-add, first (a .upper), last (b .upper)) (add-mono (times-q (h .below)) (times-p (k .below)));
+        above = simp (mul-add, first (a .lower), last (b .lower)) (add-mono (times-q (h .above)) (times-p (k .above)));
+        below = simp (mul-add, first (a .upper), last (b .upper)) (add-mono (times-q (h .below)) (times-p (k .below)));
       }
 
   pub difference-holds : Between (differenceOf a b) (p -ᶠ q)

@@ -7,11 +7,11 @@ use Rattle.gear.proofs.own_second.Tie as tie
 
 returns : tie.Need-returns
 unfolding ownSecond
-returns c = simp (eq-eqb _ _ (c .if1 .taken))
+returns c = simp (eq-eqb _ 0 (c .if1 .taken))
 
 returns-2 : tie.Need-returns-2
 unfolding ownSecond
-returns-2 c = simp (ne-eqb _ _ (c .before .if1 .left)) (c .own-gear .ensures)
+returns-2 c = simp (ne-eqb _ 0 (c .before .if1 .left)) (c .own-gear .ensures)
 
 pub own-second-spec : {M : Type 1} → statement M
 own-second-spec = tie.close (tie.spec returns (λ c κs. search needs) returns-2)

@@ -8,7 +8,9 @@ use denote.Ref.{now}
 use lib.ListN.{length, take, length-take, length-drop}
 use borrow.Author.Needs.{needs}
 use Rattle.refusal.specs.declared.Judged.the-variants.{Accepted}
-use Rattle.gear.specs.Sheet.{judgeSheet}
+use Rattle.trace.specs.House.{countOf}
+use Rattle.shift.specs.Speeds.{shiftOf}
+use Rattle.gear.specs.Sheet.{judgeSheet, ifAccepted, withRow}
 use Rattle.gear.proofs.Buffer.{part-whole, part-back}
 use Rattle.gear.proofs.Sheet.{Sound, sheet-sound, sheet-ready, answer-refused, answer-close, buffer-refused, buffer-back}
 use Rattle.gear.proofs.write_gears.Statement.{statement}
@@ -60,7 +62,9 @@ returns-2 c =
     let n = w .before .count-of .ensures .0 in
     let close = rw (w .shift-of .ensures, n) at (lent .fill .ensures .0) in
     let answer = close ∙ sym (answer-close trace (a .v) buffer (a .start) (accepted (told w))) in
-    let part = rw (w .shift-of .ensures, n, part-whole buffer (a .start)) at (lent .fill .ensures .1) in
+    let filled = rw (w .shift-of .ensures, n) at (lent .fill .ensures .1) in
+    let row-in : List ℕ → List ℕ = λ part. ifAccepted (lent .fill .result) (withRow (shiftOf (a .v)) trace (countOf trace) part) part in
+    let part = filled ∙ ap row-in (part-whole buffer (a .start)) in
     (answer, part-back buffer (lent .fill .last .1 .1 .0) (a .start) ∙ ap (λ (l : List ℕ). take (a .start) buffer ++ l) part ∙ buffer-back trace (a .v) buffer (a .start) answer)
 
 pub write-gears-spec : {M : Type 1} → statement M

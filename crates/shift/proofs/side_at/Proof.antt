@@ -5,4 +5,4 @@ use Rattle.shift.proofs.side_at.Tie as tie
 
 pub side-at-spec : {M : Type 1} → statement M
 side-at-spec =
-    tie.close (tie.spec (λ c. simp (eq-eqb _ _ (c .if1 .taken))) (λ c. simp (ne-eqb _ _ (c .if1 .left))))
+    tie.close (tie.spec (λ c. simp (eq-eqb _ 0 (c .if1 .taken))) (λ c. simp (ne-eqb _ 0 (c .if1 .left))))
