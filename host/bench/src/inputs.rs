@@ -1,7 +1,7 @@
 //! What is timed.
 
 use compare::random::Random;
-use ylhovesko::bags::{result, Sheet};
+use ylhovesko::bags::{petrol, result, Gases, Part, Reading, Sheet};
 use ylhovesko::gear::Vehicle;
 
 /// The machine of Annex 13.
@@ -43,7 +43,39 @@ pub fn traces(count: u16) -> [(&'static str, Vec<Vec<u8>>); 2] {
     [("cycle", files(count, cycle())), ("restless", files(count, restless()))]
 }
 
-/// The first of the random cases that are accepted.
-pub fn sheets(count: usize) -> Vec<Sheet> {
-    (0..).map(compare::bags::case).filter(|sheet| result(*sheet).is_ok()).take(count).collect()
+/// Tests as a bench has them: HC, CO and NOx in ppm and CO2 in percent, dilution air that is nearly clean, and every field near its usual value.
+fn ordinary(random: &mut Random) -> Sheet {
+    let fuel = petrol(random.from(720, 775));
+    let class = random.from(1, 3);
+    let mut part = || {
+        let mut ppm = |most: u32| Reading::ppm(random.from(0, 100 * most) as f32 / 100.0);
+        let bag = Gases { hc: ppm(300), co: ppm(4000), nox: ppm(120), co2: Reading::percent(random.from(30, 300) as f32 / 100.0) };
+        let mut ppm = |most: u32| Reading::ppm(random.from(0, 100 * most) as f32 / 100.0);
+        let air = Gases { hc: ppm(5), co: ppm(4), nox: ppm(1), co2: Reading::percent(random.from(3, 5) as f32 / 100.0) };
+        Part {
+            pump: random.from(1000, 4000),
+            revolutions: random.from(10_000, 40_000),
+            barometer: random.from(98_000, 103_000),
+            depression: random.from(500, 3000),
+            temperature: random.from(200, 400) as i32,
+            humidity: random.from(300, 600),
+            saturation: random.from(2000, 3500),
+            distance: random.from(4000, 16_000),
+            density: fuel.density,
+            bag,
+            air,
+        }
+    };
+    let parts = [part(), part(), part()];
+    let limits = Gases { hc: 1_000_000, co: 5_500_000, nox: 300_000, co2: 100_000_000 };
+    Sheet { class, count: if class == 3 { 3 } else { 2 }, triple: fuel.triple, fuel: fuel.fuel, limits, parts }
+}
+
+/// The kinds of sheets, with the first so many that are accepted.
+pub fn sheets(count: usize) -> [(&'static str, Vec<Sheet>); 2] {
+    let accepted = |sheet: &Sheet| result(*sheet).is_ok();
+    let mut random = Random::new(1);
+    let usual = std::iter::repeat_with(|| ordinary(&mut random)).filter(accepted).take(count).collect();
+    let odd = (0..).map(compare::bags::case).filter(accepted).take(count).collect();
+    [("ordinary", usual), ("random", odd)]
 }

@@ -63,19 +63,20 @@ fn consume<T>(value: T) {
 
 /// Results of tests.
 fn time_results() {
-    println!("| results/s, core | quick | plain | core to quick | core to plain |");
-    println!("|---|---|---|---|---|");
-    let sheets = sheets(SHEETS);
-    let plain_sheets: Vec<_> = sheets.iter().map(plain_sheet).collect();
-    for sheet in &sheets {
-        assert_eq!(ylhovesko::bags::result(*sheet), bench::bags::result(sheet));
+    println!("| sheets | results/s, core | quick | plain | core to quick | core to plain |");
+    println!("|---|---|---|---|---|---|");
+    for (kind, sheets) in sheets(SHEETS) {
+        let plain_sheets: Vec<_> = sheets.iter().map(plain_sheet).collect();
+        for sheet in &sheets {
+            assert_eq!(ylhovesko::bags::result(*sheet), bench::bags::result(sheet), "{kind}");
+        }
+        let times = least([
+            &mut || sheets.iter().for_each(|sheet| consume(ylhovesko::bags::result(*black_box(sheet)))),
+            &mut || sheets.iter().for_each(|sheet| consume(bench::bags::result(black_box(sheet)))),
+            &mut || plain_sheets.iter().for_each(|sheet| consume(plain::bags::test(black_box(sheet)))),
+        ]);
+        print_row(&format!(" {kind} |"), SHEETS, times);
     }
-    let times = least([
-        &mut || sheets.iter().for_each(|sheet| consume(ylhovesko::bags::result(*black_box(sheet)))),
-        &mut || sheets.iter().for_each(|sheet| consume(bench::bags::result(black_box(sheet)))),
-        &mut || plain_sheets.iter().for_each(|sheet| consume(plain::bags::test(black_box(sheet)))),
-    ]);
-    print_row("", SHEETS, times);
 }
 
 fn main() {
