@@ -210,9 +210,14 @@ fn what_a_sheet_does_not_know_is_named() {
     refused_with_note("ninth.vehicle", vehicle("ndv 6", "ndv 9"), sixth, "line 14: unknown key 'ndv 9'");
     let latin = [b"sheet = vehicle\npower = 72".as_slice(), &[0xb9], b"\n"].concat();
     refused_with_note("latin.vehicle", latin, "5 vehicle sheet out of range, field 1 power", "it is not UTF-8 text");
-    let path = stored("more.bags", bags("class = 3", "class = 3\nbench = 7"));
+    accepted_with_note("more.bags", bags("class = 3", "class = 3\nbench = 7"), "line 5: unknown key 'bench'");
+    accepted_with_note("five.vehicle", vehicle("gears = 6", "gears = 5"), "line 14: unknown key 'ndv 6'");
+}
+
+fn accepted_with_note(name: &str, text: String, note: &str) {
+    let path = stored(name, text);
     let told = run(&["check", &path]);
-    assert_eq!((told.out, told.errors), (format!("{path}: accepted\n"), format!("{path}: line 5: unknown key 'bench'\n")));
+    assert_eq!((told.out, told.errors), (format!("{path}: accepted\n"), format!("{path}: {note}\n")));
 }
 
 #[test]
