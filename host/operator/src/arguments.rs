@@ -18,7 +18,8 @@ impl Arguments {
         let mut given = given.iter();
         while let Some(word) = given.next() {
             if let Some(option) = options.iter().copied().find(|option| word == *option) {
-                let Some(value) = given.next() else { return Err(Failure::usage(format!("{option} needs a value"))) };
+                let value = given.next().filter(|value| !is_option(value));
+                let Some(value) = value else { return Err(Failure::usage(format!("{option} needs a value"))) };
                 if taken.option(option).is_some() {
                     return Err(Failure::usage(format!("{option} is given twice")));
                 }
@@ -47,10 +48,10 @@ impl Arguments {
         self.words.iter().map(PathBuf::from).collect()
     }
 
-    /// The words where there are exactly as many as the command takes.
-    pub fn exactly<const N: usize>(&self) -> Result<[PathBuf; N], Failure> {
+    /// The words where there are exactly as many as the command takes, which are `wanted`.
+    pub fn exactly<const N: usize>(&self, wanted: &str) -> Result<[PathBuf; N], Failure> {
         let found = self.words.len();
-        self.paths().try_into().map_err(|_| Failure::usage(format!("{N} expected, {found} given")))
+        self.paths().try_into().map_err(|_| Failure::usage(format!("{wanted} expected, {found} given")))
     }
 }
 

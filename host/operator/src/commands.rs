@@ -13,8 +13,16 @@ const STOP: [u8; 12] = [b'W', b'T', b'R', 0, 1, 0, 1, 0, 0, 0, 0, 0];
 
 pub fn gears(given: &[OsString]) -> Result<Told, Failure> {
     let arguments = Arguments::of(given, &["--csv", "--svg"], &[])?;
-    let [trace, vehicle] = arguments.exactly()?;
-    gears_of(&trace, &vehicle, arguments.option("--csv"), arguments.option("--svg"))
+    let [trace, vehicle] = arguments.exactly("a trace and a vehicle sheet")?;
+    let (csv, svg) = (arguments.option("--csv"), arguments.option("--svg"));
+    let named = [Some(trace.as_path()), Some(vehicle.as_path()), csv, svg];
+    for (option, at) in [("--csv", 2), ("--svg", 3)] {
+        let written = |out: &Path| named[..at].iter().flatten().any(|other| files::same(out, other));
+        if named[at].is_some_and(written) {
+            return Err(Failure::usage(format!("{option} names a file that is named before")));
+        }
+    }
+    gears_of(&trace, &vehicle, csv, svg)
 }
 
 fn gears_of(trace: &Path, vehicle: &Path, csv: Option<&Path>, svg: Option<&Path>) -> Result<Told, Failure> {
@@ -34,7 +42,7 @@ fn gears_of(trace: &Path, vehicle: &Path, csv: Option<&Path>, svg: Option<&Path>
 }
 
 pub fn result(given: &[OsString]) -> Result<Told, Failure> {
-    let [sheet] = Arguments::of(given, &[], &[])?.exactly()?;
+    let [sheet] = Arguments::of(given, &[], &[])?.exactly("a bag sheet")?;
     result_of(&sheet)
 }
 
@@ -53,7 +61,7 @@ fn result_of(path: &Path) -> Result<Told, Failure> {
 pub fn check(given: &[OsString]) -> Result<Told, Failure> {
     let arguments = Arguments::of(given, &[], &["--pair"])?;
     if arguments.has("--pair") {
-        let [normal, reduced] = arguments.exactly()?;
+        let [normal, reduced] = arguments.exactly("a normal and a reduced trace")?;
         let judged = judge_pair(&files::read(&normal)?, &files::read(&reduced)?);
         return Ok(judged_line(&format!("{} and {}", normal.display(), reduced.display()), judged));
     }
@@ -96,7 +104,7 @@ const DEMO_TRACES: [&str; 6] =
 
 pub fn demo(given: &[OsString]) -> Result<Told, Failure> {
     let arguments = Arguments::of(given, &["--from"], &[])?;
-    let [] = arguments.exactly()?;
+    let [] = arguments.exactly("no file")?;
     let folder = arguments.option("--from").unwrap_or(Path::new("demo"));
     let mut told = Told::default();
     for trace in DEMO_TRACES {

@@ -34,6 +34,11 @@ pub fn write(path: &Path, text: &str) -> Result<(), Failure> {
     std::fs::write(path, text).map_err(|error| Failure::of_file(path, &[format!("cannot be written: {error}")]))
 }
 
+/// Whether two paths lead to one file. One that is not there yet has its path alone.
+pub fn same(one: &Path, other: &Path) -> bool {
+    one == other || one.canonicalize().is_ok_and(|one| other.canonicalize().is_ok_and(|other| one == other))
+}
+
 /// What was read of a file, with a line for each note on it.
 pub struct Noted<T> {
     pub value: T,
@@ -48,7 +53,7 @@ fn noted<T>(path: &Path, (value, notes): (T, Vec<String>)) -> Noted<T> {
 fn sheet(path: &Path) -> Result<Sheet, Failure> {
     let bytes = read(path)?;
     if bytes.len() as u64 > LONGEST {
-        return Ok(Sheet { notes: vec![format!("it is longer than {LONGEST} bytes")], ..Sheet::default() });
+        return Ok(Sheet::unread(format!("it is longer than {LONGEST} bytes")));
     }
     Ok(Sheet::read(&bytes))
 }
@@ -79,11 +84,7 @@ pub fn known(path: &Path) -> Result<Noted<Known>, Failure> {
             let (bags, notes) = bags::bag_sheet_of(sheet);
             (Known::Bags(Box::new(bags)), notes)
         }
-        _ => {
-            let mut notes = sheet.notes;
-            notes.push("its first key is neither 'sheet = vehicle' nor 'sheet = bags'".to_string());
-            return Err(Failure::of_file(path, &notes));
-        }
+        _ => return Err(Failure::of_file(path, &sheet.notes_without_kind("neither 'sheet = vehicle' nor 'sheet = bags'"))),
     };
     Ok(noted(path, (known, notes)))
 }

@@ -14,7 +14,7 @@ usage: ylhovesko-bench COMMAND ..
 COMMAND --help says more of a command.
 
 A sheet is a text of lines 'key = value'; what follows # is a comment. Its first key is 'sheet = vehicle' or 'sheet = bags'. Values are whole
-numbers in the units that the help of 'gears' and of 'result' gives.
+numbers, but for readings, in the units that the help of 'gears' and of 'result' gives.
 
 exit: 0 accepted, 1 refused (the refusal is printed), 2 wrong use or a file that cannot be read
 ";

@@ -9,6 +9,11 @@ use std::process::ExitCode;
 
 const HEADING: &str = "second,speed_tenths,phase,no_gearshift,no_first";
 
+const USAGE: &str = "usage: house-file CSV OUT.wtr
+
+Makes the house file of a trace from a cycle table: a heading 'second,speed_tenths,phase,no_gearshift,no_first', then a line for each second, with the
+phase as stop, acc, cruise or dec.";
+
 fn bit(word: &str) -> Option<u8> {
     match word {
         "0" => Some(0),
@@ -38,7 +43,7 @@ fn house_file(table: &str) -> Result<Vec<u8>, String> {
     let mut count: u16 = 0;
     for line in lines {
         count = count.checked_add(1).ok_or("more seconds than a house file can count")?;
-        seconds.extend(second_of(line, count).ok_or_else(|| format!("second {count} is malformed: '{line}'"))?);
+        seconds.extend(second_of(line, count).ok_or_else(|| format!("second {count} is malformed: '{}'", line.escape_debug()))?);
     }
     let [low, high] = count.to_le_bytes();
     let mut file = vec![b'W', b'T', b'R', 0, 1, 0, low, high];
@@ -47,7 +52,7 @@ fn house_file(table: &str) -> Result<Vec<u8>, String> {
 }
 
 fn made(given: &[OsString]) -> Result<(), String> {
-    let [table, file] = given else { return Err("usage: house-file CSV OUT.wtr".to_string()) };
+    let [table, file] = given else { return Err(USAGE.to_string()) };
     let text = std::fs::read_to_string(table).map_err(|error| format!("{}: {error}", table.to_string_lossy()))?;
     let bytes = house_file(&text).map_err(|message| format!("{}: {message}", table.to_string_lossy()))?;
     std::fs::write(file, bytes).map_err(|error| format!("{}: {error}", file.to_string_lossy()))
@@ -55,6 +60,11 @@ fn made(given: &[OsString]) -> Result<(), String> {
 
 fn main() -> ExitCode {
     let given: Vec<OsString> = std::env::args_os().skip(1).collect();
+    if given.iter().any(|word| word == "--help") {
+        // A reader that has seen enough is no fault.
+        let _ = writeln!(io::stdout(), "{USAGE}");
+        return ExitCode::SUCCESS;
+    }
     match made(&given) {
         Ok(()) => ExitCode::SUCCESS,
         Err(message) => {

@@ -6,11 +6,14 @@ use crate::{Failure, Told};
 use std::ffi::OsString;
 use ylhovesko::bags::{diesel, petrol, Preset};
 
+/// The preset for a density.
+type Fuel = fn(u32) -> Preset;
+
 /// The regulation's fuels, by name.
-const FUELS: [(&str, fn(u32) -> Preset); 2] = [("petrol", petrol), ("diesel", diesel)];
+const FUELS: [(&str, Fuel); 2] = [("petrol", petrol), ("diesel", diesel)];
 
 pub fn preset(given: &[OsString]) -> Result<Told, Failure> {
-    let [fuel, density] = Arguments::of(given, &[], &[])?.exactly()?;
+    let [fuel, density] = Arguments::of(given, &[], &[])?.exactly("a fuel and its density")?;
     let Some((name, preset)) = FUELS.iter().find(|(name, _)| fuel.as_os_str() == *name) else {
         return Err(Failure::usage(format!("no preset for '{}'", fuel.display())));
     };

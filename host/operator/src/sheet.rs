@@ -1,8 +1,7 @@
 //! A sheet's text: lines `key = value`, comments from `#` on, sections in square brackets.
 //!
 //! A value that is missing, malformed or given twice is never guessed. It is read as one that lies outside the range of every field of its type, so
-//! that the core refuses it and says where it stands. What a sheet holds beside its values is named in a note; it cannot have
-//! been meant for a value, since a sheet that is taken has them all.
+//! that the core refuses it and says where it stands. What a sheet holds beside its values is named in a note.
 
 use ylhovesko::bags::Reading;
 
@@ -33,6 +32,11 @@ impl Section {
     fn value(&self, key: &str) -> Option<&str> {
         let mut named = self.entries.iter().filter(|entry| entry.key == key);
         named.next().filter(|_| named.next().is_none()).map(|entry| entry.value.as_str())
+    }
+
+    /// Whether a line names the key, with whatever value.
+    pub fn names(&self, key: &str) -> bool {
+        self.entries.iter().any(|entry| entry.key == key)
     }
 
     pub fn unsigned(&self, key: &str) -> u32 {
@@ -99,11 +103,12 @@ fn quoted(words: &str) -> String {
 /// A sheet as it is written.
 #[derive(Debug, Default)]
 pub struct Sheet {
-    /// The value of the first key, where that is `sheet`.
+    /// The value of the first key, where that is `sheet` and stands there alone.
     pub kind: Option<String>,
     /// What stands before the first heading.
     pub head: Section,
     pub sections: Vec<Section>,
+    unread: bool,
     /// What was found that is no part of a sheet.
     pub notes: Vec<String>,
 }
@@ -113,12 +118,18 @@ impl Sheet {
     pub fn read(bytes: &[u8]) -> Sheet {
         let text = String::from_utf8_lossy(bytes);
         let mut sheet = split(text.trim_start_matches('\u{feff}'));
-        if std::str::from_utf8(bytes).is_err() {
-            sheet.notes.push("it is not UTF-8 text".to_string());
+        if let Err(error) = std::str::from_utf8(bytes) {
+            let line = 1 + bytes[..error.valid_up_to()].iter().filter(|&&byte| byte == b'\n').count();
+            sheet.notes.push(format!("line {line}: a byte that is no UTF-8 text"));
         }
-        let first = sheet.head.entries.first().filter(|entry| entry.key == "sheet");
-        sheet.kind = first.map(|entry| lowered(&entry.value));
+        let is_first = sheet.head.entries.first().is_some_and(|entry| entry.key == "sheet");
+        sheet.kind = sheet.head.value("sheet").filter(|_| is_first).map(lowered);
         sheet
+    }
+
+    /// A sheet of which nothing was read, with a note that says why.
+    pub fn unread(note: String) -> Sheet {
+        Sheet { unread: true, notes: vec![note], ..Sheet::default() }
     }
 
     /// The sheet where it says that it is of this kind, else one without a value: nothing is taken from what says that it is something else.
@@ -126,9 +137,17 @@ impl Sheet {
         if self.kind.as_deref() == Some(kind) {
             return self;
         }
-        let mut notes = self.notes;
-        notes.push(format!("its first key is not 'sheet = {kind}'"));
+        let notes = self.notes_without_kind(&format!("not 'sheet = {kind}'"));
         Sheet { notes, ..Sheet::default() }
+    }
+
+    /// The notes on a sheet whose first key is not the one that it should be.
+    pub fn notes_without_kind(self, is: &str) -> Vec<String> {
+        let mut notes = self.notes;
+        if !self.unread {
+            notes.push(format!("its first key is {is}"));
+        }
+        notes
     }
 
     /// Nothing that an operator wrote is passed over: a key that is not known or stands twice is named.
@@ -158,7 +177,7 @@ fn split(text: &str) -> Sheet {
             let entry = Entry { key: lowered(key), value: value.trim().to_string(), line };
             sheet.sections.last_mut().unwrap_or(&mut sheet.head).entries.push(entry);
         } else {
-            sheet.notes.push(format!("line {line}: neither 'key = value' nor '[part 1]': {}", quoted(said)));
+            sheet.notes.push(format!("line {line}: neither 'key = value' nor a heading: {}", quoted(said)));
         }
     }
     sheet

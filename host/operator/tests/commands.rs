@@ -205,13 +205,13 @@ fn what_a_sheet_does_not_know_is_named() {
     refused_with_note("again.bags", bags("class = 3", "class = 3\nclass = 3"), count, "line 5: key 'class' stands in line 4 already");
     refused_with_note("section.bags", bags("[part 1]", "[first part]"), count, "line 21: unknown section 'first part'");
     refused_with_note("four.bags", bags("[part 3]", "[part 4]"), count, "line 67: unknown section 'part 4'");
-    refused_with_note("line.bags", bags("class = 3", "class 3"), count, "line 4: neither 'key = value' nor '[part 1]': 'class 3'");
+    refused_with_note("line.bags", bags("class = 3", "class 3"), count, "line 4: neither 'key = value' nor a heading: 'class 3'");
     let sixth = "5 vehicle sheet out of range, field 11 ndv of gear 6";
     refused_with_note("ninth.vehicle", vehicle("ndv 6", "ndv 9"), sixth, "line 14: unknown key 'ndv 9'");
     let latin = [b"sheet = vehicle\npower = 72".as_slice(), &[0xb9], b"\n"].concat();
-    refused_with_note("latin.vehicle", latin, "5 vehicle sheet out of range, field 1 power", "it is not UTF-8 text");
+    refused_with_note("latin.vehicle", latin, "5 vehicle sheet out of range, field 1 power", "line 2: a byte that is no UTF-8 text");
     accepted_with_note("more.bags", bags("class = 3", "class = 3\nbench = 7"), "line 5: unknown key 'bench'");
-    accepted_with_note("five.vehicle", vehicle("gears = 6", "gears = 5"), "line 14: unknown key 'ndv 6'");
+    accepted_with_note("five.vehicle", vehicle("gears = 6", "gears = 5"), "'ndv 6' is past the last gear, 5, and is not read");
 }
 
 fn accepted_with_note(name: &str, text: String, note: &str) {
@@ -224,12 +224,22 @@ fn accepted_with_note(name: &str, text: String, note: &str) {
 fn what_is_no_sheet_has_no_value() {
     let trace = demo().join("part1_normal.wtr").to_str().unwrap().to_string();
     let nameless = edited("annex13.vehicle", "sheet = vehicle", "");
-    let damaged = [nameless.into_bytes(), demo_text("low_nox.bags").into_bytes(), Vec::new(), vec![b's', 0xff], vec![b'#'; 65_537]];
-    for bytes in damaged {
+    let twice = edited("annex13.vehicle", "sheet = vehicle", "sheet = vehicle\nsheet = bags");
+    let long = demo_text("annex13.vehicle") + &"#".repeat(65_536);
+    let kind = "its first key is not 'sheet = vehicle'";
+    let damaged = [
+        (nameless.into_bytes(), kind),
+        (twice.into_bytes(), kind),
+        (demo_text("low_nox.bags").into_bytes(), kind),
+        (Vec::new(), kind),
+        (vec![b's', 0xff], kind),
+        (long.into_bytes(), "it is longer than 65536 bytes"),
+    ];
+    for (bytes, note) in damaged {
         let path = stored("damaged.sheet", bytes);
         let told = run(&["gears", &trace, &path]);
         assert_eq!((told.out.as_str(), told.code), ("refused: 5 vehicle sheet out of range, field 1 power\n", Some(1)));
-        assert!(told.errors.ends_with(": its first key is not 'sheet = vehicle'\n"), "{}", told.errors);
+        assert!(told.errors.ends_with(&format!("{path}: {note}\n")), "{}", told.errors);
     }
     let told = run(&["result", demo().join("annex13.vehicle").to_str().unwrap()]);
     assert_eq!((told.out.as_str(), told.code), ("refused: 10 class not 1 to 3, or wrong number of parts\n", Some(1)));
@@ -355,6 +365,8 @@ fn wrong_use() {
         &["gears", "a"],
         &["gears", "a", "b", "c"],
         &["gears", "a", "b", "--csv"],
+        &["gears", "a", "b", "--csv", "--svg"],
+        &["gears", "a", "b", "--csv", "c", "--svg", "c"],
         &["gears", "a", "b", "--CSV", "c"],
         &["gears", "a", "b", "--csv", "c", "--csv", "d"],
         &["result"],
@@ -372,6 +384,22 @@ fn wrong_use() {
         assert_eq!((told.out.as_str(), told.code), ("", Some(2)), "{arguments:?}");
         assert!(!told.errors.is_empty(), "{arguments:?}");
     }
+}
+
+/// A row is never written over what it was made of.
+#[test]
+fn outputs_are_no_inputs() {
+    let bytes = fs::read(demo().join("part1_normal.wtr")).unwrap();
+    let trace = stored("kept.wtr", &bytes);
+    let sheet = stored("kept.vehicle", demo_text("annex13.vehicle"));
+    let beside = Path::new(&trace).parent().unwrap().join(".").join("kept.wtr");
+    for (option, out) in [("--csv", trace.as_str()), ("--svg", &sheet), ("--svg", beside.to_str().unwrap())] {
+        let told = run(&["gears", &trace, &sheet, option, out]);
+        let words = format!("{option} names a file that is named before; --help says how to use it\n");
+        assert_eq!((told.out.as_str(), told.errors, told.code), ("", words, Some(2)));
+    }
+    assert_eq!(fs::read(&trace).unwrap(), bytes);
+    assert_eq!(fs::read_to_string(&sheet).unwrap(), demo_text("annex13.vehicle"));
 }
 
 #[test]
