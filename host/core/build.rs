@@ -21,14 +21,13 @@ fn main() {
         println!("cargo:rustc-link-lib=static=boundary");
         return;
     }
-    let runner = host.join("x86");
+    let builder = host.join("x86");
     let source = host.join("c/serve.c");
     let program = Path::new(&var("OUT_DIR").unwrap()).join("serve");
-    let built = Command::new(&runner).arg("build").arg(&source).arg(&program).status().unwrap();
+    let built = Command::new(&builder).arg(&source).arg(&program).status().unwrap();
     assert!(built.success(), "{} does not build", source.display());
-    for read in [&runner, &source, &host.join("../include/ylhovesko.h")] {
+    for read in [&builder, &source, &host.join("../include/ylhovesko.h")] {
         println!("cargo:rerun-if-changed={}", read.display());
     }
-    println!("cargo:rustc-env=YLHOVESKO_RUNNER={}", runner.display());
     println!("cargo:rustc-env=YLHOVESKO_SERVE={}", program.display());
 }

@@ -16,12 +16,8 @@ struct Server {
 
 impl Server {
     fn start() -> Server {
-        let mut child = Command::new(env!("YLHOVESKO_RUNNER"))
-            .args(["run", env!("YLHOVESKO_SERVE")])
-            .stdin(Stdio::piped())
-            .stdout(Stdio::piped())
-            .spawn()
-            .expect("the core's program starts");
+        let mut child =
+            Command::new(env!("YLHOVESKO_SERVE")).stdin(Stdio::piped()).stdout(Stdio::piped()).spawn().expect("the core's program starts");
         let to = child.stdin.take();
         let from = child.stdout.take().unwrap();
         Server { child, to, from }
