@@ -11,7 +11,6 @@ use mir.Val.{SFits, ofZ, toZ}
 use mir.ValLaws.{toZ-ofZ}
 use Rattle.arith.specs.Rounding.{divDown, divUp}
 use Rattle.arith.proofs.Parts.{up, dn, zs, neg-parts}
-use Rattle.arith.proofs.Ring.{leZ-no}
 
 -- ---- the range
 -- the number of `mag`, by differences, so that it does not matter that one part of z is 0
@@ -44,9 +43,6 @@ lt-false e = ltZ-no (subst (λ (t : Bool). T (not t)) (sym e) tt)
 pub le-true : {a b : ℤ} → leZ a b ≡ true → a ≤ℤ b
 le-true e = leZ-yes (subst T (sym e) tt)
 
-pub le-false : {a b : ℤ} → leZ a b ≡ false → b ≤ℤ a
-le-false {a} {b} e = leZ-no a b (subst (λ (t : Bool). T (not t)) (sym e) tt)
-
 pub ruleset zs64 = (zs, fits-out)
 
 -- ---- division
@@ -60,16 +56,7 @@ pub bits-pos : (d : ℤ) → pos 0 <ℤ d → 0 < ofZ w64 d
 bits-pos (pos d) p = omega zs
 bits-pos (negsuc d) p = absurd (p .lt)
 
--- what a quotient rounded down or up is, is in range
-pub down-fits : {n d : ℤ} → pos 0 <ℤ d → SFits w64 n → SFits w64 (divDown n d)
-unfolding divDown
-down-fits {n} {d} p f = go n d p f
-  where
-    go : (n d : ℤ) → pos 0 <ℤ d → SFits w64 n → SFits w64 (divDown n d)
-    go (pos a) (pos d) p f = omega (zs64, range f, div-le-self a d)
-    go (negsuc a) (pos d) p f = omega (zs64, range f, div-le-self a d)
-    go n (negsuc d) p f = absurd (p .lt)
-
+-- what a quotient rounded up is, is in range
 pub up-fits : {n d : ℤ} → pos 0 <ℤ d → SFits w64 n → SFits w64 (divUp n d)
 unfolding divDown divUp
 up-fits {n} {d} p f = go n d p f

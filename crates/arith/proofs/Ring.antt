@@ -18,9 +18,6 @@ pub mul-add : (a b c : ℤ) → a *ℤ (b +ℤ c) ≡ a *ℤ b +ℤ a *ℤ c
 mul-add a b c =
     omega (zs, mul-parts a (b +ℤ c), mul-parts a b, mul-parts a c, add-parts (a *ℤ b) (a *ℤ c), times (up a) (add-parts b c), times (dn a) (add-parts b c))
 
-pub add-mul : (a b c : ℤ) → (a +ℤ b) *ℤ c ≡ a *ℤ c +ℤ b *ℤ c
-add-mul a b c = *ℤ-comm (a +ℤ b) c ∙ mul-add c a b ∙ cc (*ℤ-comm c a, *ℤ-comm c b)
-
 pub mul-assoc : (a b c : ℤ) → (a *ℤ b) *ℤ c ≡ a *ℤ (b *ℤ c)
 mul-assoc a b c =
     omega (zs, mul-parts (a *ℤ b) c, mul-parts a (b *ℤ c), times (up c) (mul-parts a b), times (dn c) (mul-parts a b), times (up a) (mul-parts b c), times (dn a) (mul-parts b c))
@@ -34,9 +31,6 @@ mul-sub a b c =
 
 pub mul-neg : (a b : ℤ) → a *ℤ negℤ b ≡ negℤ (a *ℤ b)
 mul-neg a b = omega (zs, mul-parts a (negℤ b), mul-parts a b, neg-parts (a *ℤ b), times (up a) (neg-parts b .0), times (up a) (neg-parts b .1), times (dn a) (neg-parts b .0), times (dn a) (neg-parts b .1))
-
-pub neg-mul : (a b : ℤ) → negℤ a *ℤ b ≡ negℤ (a *ℤ b)
-neg-mul a b = *ℤ-comm (negℤ a) b ∙ mul-neg b a ∙ ap negℤ (*ℤ-comm b a)
 
 pub one-mul : (a : ℤ) → pos 1 *ℤ a ≡ a
 one-mul a = omega (zs, mul-parts (pos 1) a)
@@ -53,12 +47,6 @@ pub ≤-trans : {a b c : ℤ} → a ≤ℤ b → b ≤ℤ c → a ≤ℤ c
 
 pub <-≤ : {a b : ℤ} → a <ℤ b → a ≤ℤ b
 <-≤ h = omega zs
-
-pub ≤-of-eq : {a b : ℤ} → a ≡ b → a ≤ℤ b
-≤-of-eq h = omega zs
-
-pub ≤-antisym : {a b : ℤ} → a ≤ℤ b → b ≤ℤ a → a ≡ b
-≤-antisym h k = omega zs
 
 -- a test that failed, which `lib.Signed` has for `ltZ` alone
 pub leZ-no : (a b : ℤ) → T (not (leZ a b)) → b ≤ℤ a
@@ -79,9 +67,6 @@ add-mono {a} {b} {c} {d} h k = omega (zs, add-parts a c, add-parts b d)
 
 pub sub-mono : {a b c d : ℤ} → a ≤ℤ b → c ≤ℤ d → (a -ℤ d) ≤ℤ (b -ℤ c)
 sub-mono {a} {b} {c} {d} h k = omega (zs, sub-parts a d, sub-parts b c)
-
-pub neg-flip : {a b : ℤ} → a ≤ℤ b → negℤ b ≤ℤ negℤ a
-neg-flip {a} {b} h = omega (zs, neg-parts a, neg-parts b)
 
 -- a product with a factor that is not negative, with one that is not positive, and with a positive one
 pub mul-mono : {a b : ℤ} (k : ℤ) → pos 0 ≤ℤ k → a ≤ℤ b → (k *ℤ a) ≤ℤ (k *ℤ b)

@@ -6,7 +6,7 @@ use mathlib.Core.List.{List, []}
 use denote.Ref.{RefT}
 use Rattle.refusal.specs.declared.Judged.{Judged}
 use Rattle.refusal.specs.declared.Judged.the-variants.{Accepted, Refused}
-use Rattle.trace.specs.Choice.{view, chosenView}
+use Rattle.trace.specs.Choice.{chosenView}
 use Rattle.boundary.specs.Outcome.{chosenOf, lentBy}
 
 pub chosen-view : (judged : Judged) (switch : Bool) (normal reduced : RefT (List ℕ))

@@ -14,7 +14,6 @@ use Rattle.bag.specs.declared.Part.{Part}
 use Rattle.bag.specs.declared.BagSheet.{BagSheet}
 use Rattle.stage.specs.declared.Verdict.{Verdict}
 use Rattle.stage.specs.declared.Verdict.the-variants.{Pass, Fail, Undecided}
-use Rattle.emission.specs.declared.Parts.{Parts}
 use Rattle.emission.specs.declared.Verdicts.{Verdicts}
 use Rattle.emission.specs.declared.Answer.{Answer}
 use Rattle.emission.specs.declared.Answer.the-variants.{Result, Refused}

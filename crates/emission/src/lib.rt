@@ -23,7 +23,7 @@ ghost use Rattle.part.specs.Room.{ReadingSizes, TripleRanges, PartRanges};
 ghost use Rattle.emission.specs.Test.{readingsIn, dilution, humidity, judgeLate, nothing, noPart, thirdPart, partsIn, weightedGases, verdictsOf, fuelIn, resultOf, handUp, testAnswer};
 ghost use Rattle.emission.specs.Room.{LateRanges, PartsRanges, RateSizes, WeighRanges, LimitRanges, FuelSheet, ResultRanges};
 
-// The readings of a test, converted once.
+// The readings of a test in units.
 pub struct Readings {
     pub first: Sides,
     pub second: Sides,
@@ -219,7 +219,7 @@ fn result_of(s: BagSheet, parts: Parts) -> TestResult
     }
 }
 
-// A refusal, as an answer. It is asked of a refused stage alone.
+// A refusal, as an answer. It is asked of a refused stage alone; the other arm is there because a match has every case.
 fn refused(j: Judged) -> Answer
     ensures { λ r. ⌜ r ≡ handUp j (Answer.Refused WrongParts) ⌝ }
 {

@@ -1,18 +1,15 @@
 -- What a usable reading is known to be: one whole number of units, from 0 to 16,777,216. Assumes nothing.
-use mathlib.Core.Path.{_≡_, sym, _∙_, subst}
+use mathlib.Core.Path.{_≡_, sym, _∙_}
 use mathlib.Core.Logic.{inl, inr}
-use Prim.Native.Nat.{ℕ, zero-le, _*_, _≤_}
+use Prim.Native.Nat.{ℕ, _*_, _≤_}
 use native.Mathlib.Nat.{eq-zero-or-pos}
 use native.Mathlib.Omega.{arith}
 use mathlib.Core.Bool.{Bool, true, false, cond}
 use lib.IntN.{pos}
-use lib.Signed.{_≤ℤ_, leZ-yes}
-use lib.Dec.{T, leb, leb→le, le→leb}
+use lib.Dec.{T, leb, leb→le}
 use lib.Ieee.{Float, nan, inf, fin, up, down}
 use Rattle.arith.specs.declared.Ends.{Ends}
 use Rattle.arith.specs.Stages.{exactly}
-use Rattle.arith.specs.Fitting.{Sized}
-use Rattle.arith.proofs.Size.{exactly-size}
 use Rattle.reading.specs.declared.Message.{Message}
 use Rattle.reading.specs.declared.Message.the-variants.{Ppm, Percent, OverRange, NotFitted}
 use Rattle.reading.specs.declared.Reading.the-variants.{Units, Unusable}
@@ -52,11 +49,3 @@ usable (Ppm x) h = at-float 256 x h
 usable (Percent x) h = at-float 2560000 x h
 usable OverRange h = absurd (not-usable h)
 usable NotFitted h = absurd (not-usable h)
-
--- what the stages ask of it
-pub usable-size : {e : Ends} → Usable e → Sized 16777216 e
-usable-size u = rw (u .exact) (exactly-size (pos (u .units)) (u .limit))
-
-pub usable-from-zero : {e : Ends} → Usable e → pos 0 ≤ℤ e .lower
-unfolding exactly
-usable-from-zero u = subst (λ (e : Ends). pos 0 ≤ℤ e .lower) (sym (u .exact)) (leZ-yes (le→leb 0 (u .units) zero-le))

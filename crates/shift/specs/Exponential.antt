@@ -2,7 +2,7 @@
 use mathlib.Core.Bool.{cond}
 use Prim.Native.Nat.{ℕ, zero, suc, _*_, _%_, _≤_, _<_}
 use lib.Dec.{eqb}
-use lib.IntN.{ℤ, pos, _*ℤ_}
+use lib.IntN.{pos, _*ℤ_}
 use Rattle.arith.specs.declared.Ends.{Ends}
 use Rattle.arith.specs.Rounding.{divDown, divUp}
 use Rattle.arith.specs.Stages.{exactly, sumOf, differenceOf}

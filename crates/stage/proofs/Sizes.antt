@@ -17,8 +17,8 @@ use Rattle.stage.proofs.UpTo.{wider-upTo, sum-upTo, times-upTo, product
 use Rattle.stage.specs.declared.Weights.{Weights}
 use Rattle.stage.specs.Combination.{combinationOf}
 use Rattle.stage.specs.Part.{gtr, kelvinOf, volumeOf, gOf, netOf, concentrationOf, gasVolumeOf, massOf, vapourOf, dryOf, humidityGood, khOf, noxMassOf, rateOf}
-use Rattle.stage.specs.Test.{weightsOf, weightedOf, fuelOf}
-use Rattle.stage.specs.Ranges.{UpTo, VolumeRanges, GRanges, ConcentrationRanges, GasVolumeRanges, MassRanges, HumidityRanges, KhRanges, NoxMassRanges, FuelRanges, largestReading, largestG, largestVolume, largestConcentration, largestGasVolume, largestMass, largestKh, largestNoxMass, largestFuel}
+use Rattle.stage.specs.Test.{weightsOf, weightedOf}
+use Rattle.stage.specs.Ranges.{UpTo, VolumeRanges, GRanges, ConcentrationRanges, GasVolumeRanges, MassRanges, HumidityRanges, KhRanges, NoxMassRanges, FuelRanges, largestReading, largestG, largestVolume, largestConcentration, largestGasVolume, largestMass, largestKh, largestNoxMass}
 
 -- ---- operations. A divisor that is at least k
 pub divided-by-size : {q : ℕ} {a : Ends} (k : ℕ) (d : ℤ) → 0 < k → pos k ≤ℤ d → Sized (k * q) a → Sized q (dividedBy a d)
@@ -150,8 +150,3 @@ weighted-size {m} weights e s t u =
 -- k times the carbon reaches 92 % of 2^63
 pub carbon-size : {k f1 f2 f3 density : ℕ} {hc co co2 : Ends} → FuelRanges k f1 f2 f3 density hc co co2 → Sized (3000 * (10 * largestMass)) (combinationOf f1 hc f2 co f3 co2)
 carbon-size {f1 = f1} {f2 = f2} {f3 = f3} r = combination-size f1 f2 f3 (r .f1-most) (r .f2-most) (r .f3-most) (r .hc-size) (r .co-size) (r .co2-size)
-
-pub fuel-size : {k f1 f2 f3 density : ℕ} {hc co co2 : Ends} → FuelRanges k f1 f2 f3 density hc co co2 → Sized largestFuel (fuelOf k f1 f2 f3 density hc co co2)
-unfolding fuelOf
-fuel-size {k = k} {density = density} r =
-    divided-by-size 6000000 (pos (10000 * density)) (omega arith) (omega (zs, r .light)) (wider-size (omega arith) (scaled-size (pos k) (r .k-most) (carbon-size r)))

@@ -45,10 +45,6 @@ largestNoxMass = 514637455637
 abbrev pub largestRate : ℕ
 largestRate = 5146374556370
 
--- in microlitres per 100 km
-abbrev pub largestFuel : ℕ
-largestFuel = 1408935267548
-
 -- ---- what each stage asks
 pub record CombinationRanges (j : ℕ) (a : Ends) (k : ℕ) (b : Ends) (l : ℕ) (c : Ends) : Type 0 where
   pub j-most : j ≤ 1000

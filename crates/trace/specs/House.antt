@@ -59,8 +59,5 @@ noFirst flags = eqb (flags / 8 % 2) 1
 abbrev pub stopAt : List ℕ → ℕ → Bool
 stopAt trace k = stop (flagsAt trace k)
 
-abbrev pub accelerationAt : List ℕ → ℕ → Bool
-accelerationAt trace k = acceleration (flagsAt trace k)
-
 abbrev pub noFirstAt : List ℕ → ℕ → Bool
 noFirstAt trace k = noFirst (flagsAt trace k)
