@@ -4,7 +4,7 @@ use std::hint::black_box;
 use std::time::Instant;
 
 use bench::inputs::{sheets, traces, MACHINE};
-use compare::bags::plain_sheet;
+use compare::bags::{by_plain, plain_sheet, told};
 use compare::gear::plain_vehicle;
 
 const ROUNDS: usize = 200;
@@ -68,7 +68,9 @@ fn time_results() {
     for (kind, sheets) in sheets(SHEETS) {
         let plain_sheets: Vec<_> = sheets.iter().map(plain_sheet).collect();
         for sheet in &sheets {
-            assert_eq!(ylhovesko::bags::result(*sheet), bench::bags::result(sheet), "{kind}");
+            let core = ylhovesko::bags::result(*sheet);
+            assert_eq!(core, bench::bags::result(sheet), "{kind}");
+            assert_eq!(told(sheet, core), by_plain(sheet).0, "{kind}");
         }
         let times = least([
             &mut || sheets.iter().for_each(|sheet| consume(ylhovesko::bags::result(*black_box(sheet)))),

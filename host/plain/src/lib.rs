@@ -1,6 +1,6 @@
-//! The paper's sheets a second time, in plain Rust and from the paper's sentences alone.
+//! The paper's sheets a second time, in plain Rust, after the paper's sentences.
 //!
-//! It shares no line with the proved core, so that where both give the same bytes the paper was read the same way twice. It favours what is
+//! It shares no code with the proved core, so that a slip in one shows as a difference. It favours what is
 //! easy to compare with the paper over what is fast: whole rows are copied, and numbers are 128 bits wide where 64 would need an argument.
 
 pub mod bags;
