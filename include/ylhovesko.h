@@ -2,7 +2,7 @@
  * Ylhovesko: the calculation core for motorcycle emission benches, as C calls it.
  *
  * Link target/staticlib/libboundary.a, which `rt staticlib boundary` makes. It is x86-64 code, keeps nothing between calls, allocates nothing
- * and calls nothing but memset and memcpy, so any number of threads may call it at once.
+ * and calls nothing but memset and memcpy, so any number of threads may call it at once. A call takes at most 8 KiB of stack.
  *
  * Every function answers every input: a damaged file or sheet is refused with a number and a place, and on a refusal every buffer stays as it was
  * lent. The caller has to see to three things only, which no proof can: each pointer is not null, not even with length 0, and leads to as many

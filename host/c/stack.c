@@ -1,0 +1,101 @@
+/* How much stack a call takes: each is made by a thread on a stack that was painted before, and what it touched below its caller is counted. Ends with
+   0 where none takes more than ylhovesko.h says. */
+#define _POSIX_C_SOURCE 200809L
+#include <pthread.h>
+#include <stdio.h>
+#include <string.h>
+
+#include "ylhovesko.h"
+
+enum { PROMISED = 8192, PAINT = 0xa5 };
+
+static unsigned char stack[131072] __attribute__((aligned(4096)));
+static int wrong;
+
+/* a stop, then 2.0 km/h in acceleration, cruise and deceleration, over and over */
+static uint8_t trace[8 + 4 * 2000] = {'W', 'T', 'R', 0, 1, 0, 0xd0, 7};
+static uint8_t row[2 * 2000];
+static ylhovesko_bag_sheet sheet;
+static ylhovesko_test_result result;
+
+static void gears(void)
+{
+    const ylhovesko_vehicle vehicle = {300, 200, 8000, 1200, 4, {20000, 12000, 9000, 7000, 0, 0, 0, 0}};
+
+    if (ylhovesko_gears(trace, sizeof trace, vehicle, row, sizeof row, 0).number != 0)
+        wrong = 1;
+}
+
+static void pair(void)
+{
+    if (ylhovesko_chosen(trace, sizeof trace, trace, sizeof trace, true) != YLHOVESKO_REDUCED)
+        wrong = 1;
+}
+
+static void a_result(void)
+{
+    result = ylhovesko_result(sheet);
+    if (result.outcome.number != 0)
+        wrong = 1;
+}
+
+static void a_refused_result(void)
+{
+    sheet.part[2].barometer = 200000;
+    result = ylhovesko_result(sheet);
+    if (result.outcome.number != 11)
+        wrong = 1;
+}
+
+struct measured {
+    const char *what;
+    void (*call)(void);
+};
+
+/* from the thread's own place on the painted stack down to the deepest byte that the call touched, with its arguments */
+static void *measure(void *given)
+{
+    const struct measured *measured = given;
+    unsigned char here = 0;
+    size_t taken, untouched = 0;
+
+    measured->call();
+    while (stack[untouched] == PAINT)
+        untouched++;
+    taken = (size_t)(&here - stack) - untouched;
+    printf("stack: %s took %zu bytes\n", measured->what, taken);
+    if (taken > PROMISED)
+        wrong = 1;
+    return NULL;
+}
+
+static void on_painted_stack(struct measured measured)
+{
+    pthread_t thread;
+    pthread_attr_t attributes;
+
+    memset(stack, PAINT, sizeof stack);
+    if (pthread_attr_init(&attributes) != 0 || pthread_attr_setstack(&attributes, stack, sizeof stack) != 0
+        || pthread_create(&thread, &attributes, measure, &measured) != 0 || pthread_join(thread, NULL) != 0)
+        wrong = 1;
+}
+
+int main(void)
+{
+    const ylhovesko_preset petrol = ylhovesko_petrol(750);
+    const ylhovesko_part part = {.pump = 1000, .revolutions = 50000, .barometer = 101300, .distance = 1000, .density = petrol.density};
+    const struct measured all[] = {
+        {"gears", gears}, {"a pair of traces", pair}, {"a result", a_result}, {"a refused result", a_refused_result}};
+    size_t k;
+
+    for (k = 0; k < 2000; k++) {
+        trace[8 + 4 * k] = k % 4 == 0 ? 0 : 20;
+        trace[8 + 4 * k + 2] = (uint8_t)(k % 4);
+    }
+    sheet = (ylhovesko_bag_sheet){3, 3, petrol.triple, petrol.fuel, {0, 0, 0, 0}, {part, part, part}};
+    for (k = 0; k < sizeof all / sizeof all[0]; k++)
+        on_painted_stack(all[k]);
+    if (wrong)
+        printf("stack: a call failed, or took more than %d bytes\n", PROMISED);
+    return wrong;
+}
