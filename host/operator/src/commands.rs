@@ -14,15 +14,15 @@ const STOP: [u8; 12] = [b'W', b'T', b'R', 0, 1, 0, 1, 0, 0, 0, 0, 0];
 pub fn gears(given: &[OsString]) -> Result<Told, Failure> {
     let arguments = Arguments::of(given, &["--csv", "--svg"], &[])?;
     let [trace, vehicle] = arguments.exactly("a trace and a vehicle sheet")?;
-    let (csv, svg) = (arguments.option("--csv"), arguments.option("--svg"));
-    let named = [Some(trace.as_path()), Some(vehicle.as_path()), csv, svg];
-    for (option, at) in [("--csv", 2), ("--svg", 3)] {
-        let written = |out: &Path| named[..at].iter().flatten().any(|other| files::same(out, other));
-        if named[at].is_some_and(written) {
+    let mut named = vec![trace.as_path(), vehicle.as_path()];
+    for option in ["--csv", "--svg"] {
+        let Some(out) = arguments.option(option) else { continue };
+        if named.iter().any(|other| files::same(out, other)) {
             return Err(Failure::usage(format!("{option} names a file that is named before")));
         }
+        named.push(out);
     }
-    gears_of(&trace, &vehicle, csv, svg)
+    gears_of(&trace, &vehicle, arguments.option("--csv"), arguments.option("--svg"))
 }
 
 fn gears_of(trace: &Path, vehicle: &Path, csv: Option<&Path>, svg: Option<&Path>) -> Result<Told, Failure> {

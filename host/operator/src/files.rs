@@ -4,7 +4,7 @@ use crate::sheet::Sheet;
 use crate::{bags, lines, vehicle, Failure};
 use std::fs::File;
 use std::io::Read;
-use std::path::Path;
+use std::path::{Path, PathBuf};
 use ylhovesko::bags::Sheet as BagSheet;
 use ylhovesko::gear::Vehicle;
 
@@ -34,9 +34,15 @@ pub fn write(path: &Path, text: &str) -> Result<(), Failure> {
     std::fs::write(path, text).map_err(|error| Failure::of_file(path, &[format!("cannot be written: {error}")]))
 }
 
-/// Whether two paths lead to one file. One that is not there yet has its path alone.
+/// Where a path leads. A file that is not there yet is known by its folder.
+fn place(path: &Path) -> Option<PathBuf> {
+    let to_be = || Some(std::path::absolute(path).ok()?.parent()?.canonicalize().ok()?.join(path.file_name()?));
+    path.canonicalize().ok().or_else(to_be)
+}
+
+/// Whether two paths lead to one file.
 pub fn same(one: &Path, other: &Path) -> bool {
-    one == other || one.canonicalize().is_ok_and(|one| other.canonicalize().is_ok_and(|other| one == other))
+    one == other || place(one).is_some_and(|here| place(other) == Some(here))
 }
 
 /// What was read of a file, with a line for each note on it.

@@ -366,7 +366,6 @@ fn wrong_use() {
         &["gears", "a", "b", "c"],
         &["gears", "a", "b", "--csv"],
         &["gears", "a", "b", "--csv", "--svg"],
-        &["gears", "a", "b", "--csv", "c", "--svg", "c"],
         &["gears", "a", "b", "--CSV", "c"],
         &["gears", "a", "b", "--csv", "c", "--csv", "d"],
         &["result"],
@@ -378,26 +377,35 @@ fn wrong_use() {
         &["preset", "petrol", "-1"],
         &["preset", "petrol", "x"],
         &["demo", "a"],
-        &["demo", "--from", "/nowhere/at/all"],
     ] {
         let told = run(arguments);
         assert_eq!((told.out.as_str(), told.code), ("", Some(2)), "{arguments:?}");
-        assert!(!told.errors.is_empty(), "{arguments:?}");
+        assert!(told.errors.ends_with("; --help says how to use it\n"), "{arguments:?}: {}", told.errors);
     }
+    let told = run(&["demo", "--from", "/nowhere/at/all"]);
+    assert_eq!((told.out.as_str(), told.code), ("", Some(2)));
+    assert!(told.errors.starts_with("/nowhere/at/all/annex13.vehicle: cannot be read: "), "{}", told.errors);
 }
 
-/// A row is never written over what it was made of.
+/// A row is never written over what it was made of, nor a picture over a table.
 #[test]
 fn outputs_are_no_inputs() {
     let bytes = fs::read(demo().join("part1_normal.wtr")).unwrap();
     let trace = stored("kept.wtr", &bytes);
     let sheet = stored("kept.vehicle", demo_text("annex13.vehicle"));
     let beside = Path::new(&trace).parent().unwrap().join(".").join("kept.wtr");
-    for (option, out) in [("--csv", trace.as_str()), ("--svg", &sheet), ("--svg", beside.to_str().unwrap())] {
-        let told = run(&["gears", &trace, &sheet, option, out]);
-        let words = format!("{option} names a file that is named before; --help says how to use it\n");
+    let made = Path::new(&trace).with_extension("made");
+    let again = made.parent().unwrap().join(".").join("kept.made");
+    let [beside, made, again] = [&beside, &made, &again].map(|path| path.to_str().unwrap());
+    let _ = fs::remove_file(made);
+    for options in
+        [&["--csv", &trace][..], &["--svg", &sheet], &["--svg", beside], &["--csv", made, "--svg", made], &["--csv", made, "--svg", again]]
+    {
+        let told = run(&[&["gears", &trace, &sheet], options].concat());
+        let words = format!("{} names a file that is named before; --help says how to use it\n", options[options.len() - 2]);
         assert_eq!((told.out.as_str(), told.errors, told.code), ("", words, Some(2)));
     }
+    assert!(!Path::new(made).exists());
     assert_eq!(fs::read(&trace).unwrap(), bytes);
     assert_eq!(fs::read_to_string(&sheet).unwrap(), demo_text("annex13.vehicle"));
 }
