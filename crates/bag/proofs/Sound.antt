@@ -3,7 +3,7 @@ use mathlib.Core.Path.{_≡_, refl}
 use mathlib.Core.Bool.{true, false≢true}
 use mathlib.Core.List.{List, [], _∷_, _++_}
 use Prim.Native.Nat.{ℕ, _*_}
-use lib.Dec.{eqb}
+use lib.Dec.{eqb, leb}
 use borrow.Author.Tests.{leb-true, eqb-true, eq-eqb}
 use Rattle.refusal.specs.declared.Judged.the-variants.{Accepted}
 use Rattle.refusal.specs.Judging.{Check}
@@ -14,9 +14,10 @@ use Rattle.reading.specs.declared.Message.{Message}
 use Rattle.reading.specs.declared.Reading.{Reading}
 use Rattle.reading.specs.declared.Reading.the-variants.{Units, Unusable}
 use Rattle.reading.specs.Units.{unitsOf}
+use Rattle.reading.specs.Gas.{Gas, HC, CO, NOx, CO2, numberOf, along, messageAt}
 use Rattle.bag.specs.declared.Part.{Part}
 use Rattle.bag.specs.declared.BagSheet.{BagSheet}
-use Rattle.bag.specs.Sheet.{partsOf, classHolds, testChecks, valueChecks, usable, readingChecks, ofThird, sheetChecks, judgeSheet}
+use Rattle.bag.specs.Sheet.{densityAt, limitAt, partsOf, classHolds, value, testChecks, valueChecks, usable, gasChecks, readingChecks, ofThird, sheetChecks, judgeSheet}
 use Rattle.bag.specs.Sound.{Ranged, Read, SoundPart, Tested, Sound}
 
 -- where one list after another holds, both do
@@ -26,12 +27,26 @@ apart (c ∷ cs) ds h =
     let k = apart cs ds (h .1) in
     ((h .0, k .0), k .1)
 
+-- where the lists of all gases hold, each does
+along-holds : (f : Gas → List Check) → AllHold (along f) → (gas : Gas) → AllHold (f gas)
+along-holds f h =
+    let co = apart (f HC) (f CO ++ (f NOx ++ f CO2)) h in
+    let nox = apart (f CO) (f NOx ++ f CO2) (co .1) in
+    let co2 = apart (f NOx) (f CO2) (nox .1) in
+    λ gas. go (co .0) (nox .0) (co2 .0) (co2 .1) gas
+  where
+    go : AllHold (f HC) → AllHold (f CO) → AllHold (f NOx) → AllHold (f CO2) → (gas : Gas) → AllHold (f gas)
+    go hc co nox co2 HC = hc
+    go hc co nox co2 CO = co
+    go hc co nox co2 NOx = nox
+    go hc co nox co2 CO2 = co2
+
 ranged : (part : ℕ) (p : Part) → AllHold (valueChecks part p) → Ranged p
 unfolding valueChecks
 ranged part p h =
     let h3 = h .1 .1 .1 in
     let h6 = h3 .1 .1 .1 in
-    let h9 = h6 .1 .1 .1 in
+    let densities = along-holds (λ gas. value part 9 (within 1 2100000 (densityAt gas (p .density))) ∷ []) (h6 .1 .1 .1) in
     record {
       pump = range _ _ (p .pump) (h .0);
       revolutions = range _ _ (p .revolutions) (h .1 .0);
@@ -42,10 +57,7 @@ ranged part p h =
       humidity = range _ _ (p .humidity) (h6 .0) .1;
       saturation = range _ _ (p .saturation) (h6 .1 .0) .1;
       distance = range _ _ (p .distance) (h6 .1 .1 .0);
-      hcDensity = range _ _ (p .density .hc) (h9 .0);
-      coDensity = range _ _ (p .density .co) (h9 .1 .0);
-      noxDensity = range _ _ (p .density .nox) (h9 .1 .1 .0);
-      co2Density = range _ _ (p .density .co2) (h9 .1 .1 .1 .0);
+      density = λ gas. range _ _ (densityAt gas (p .density)) (densities gas .0);
     }
 
 tested : (s : BagSheet) → classHolds (s .class) (s .parts) ≡ true → AllHold (testChecks (s .triple) (s .fuel) (s .limits)) → Tested s
@@ -53,7 +65,7 @@ unfolding testChecks
 tested s e h =
     let class = both (within 1 3 (s .class)) (eqb (s .parts) (partsOf (s .class))) e in
     let h3 = h .1 .1 .1 in
-    let h8 = h3 .1 .1 .1 .1 .1 in
+    let limits = along-holds (λ gas. value 0 12 (leb (limitAt gas (s .limits)) 1000000000000) ∷ []) (h3 .1 .1 .1 .1 .1) in
     record {
       class = range _ _ (s .class) (class .0);
       parts = eqb-true _ _ (class .1);
@@ -65,10 +77,7 @@ tested s e h =
       coFactor = range _ _ (s .fuel .co) (h3 .1 .1 .0) .1;
       co2Factor = range _ _ (s .fuel .co2) (h3 .1 .1 .1 .0) .1;
       fuelDensity = range _ _ (s .fuel .density) (h3 .1 .1 .1 .1 .0);
-      hcLimit = leb-true (s .limits .hc) _ (h8 .0);
-      coLimit = leb-true (s .limits .co) _ (h8 .1 .0);
-      noxLimit = leb-true (s .limits .nox) _ (h8 .1 .1 .0);
-      co2Limit = leb-true (s .limits .co2) _ (h8 .1 .1 .1 .0);
+      limit = λ gas. leb-true (limitAt gas (s .limits)) _ (limits gas .0);
     }
 
 -- a usable message has its ends
@@ -82,13 +91,11 @@ read message h = go (unitsOf message) refl h
 sound-part : (part : ℕ) (p : Part) → AllHold (valueChecks part p) → AllHold (readingChecks part p) → SoundPart p
 unfolding readingChecks
 sound-part part p values h =
-    let co = h .1 .1 in
-    let nox = co .1 .1 in
-    let co2 = nox .1 .1 in
+    let readings = along-holds (λ gas. gasChecks part (numberOf gas) (messageAt gas (p .bag)) (messageAt gas (p .air))) h in
     record {
       ranged = ranged part p values;
-      bag = record { hc = read _ (h .0); co = read _ (co .0); nox = read _ (nox .0); co2 = read _ (co2 .0) };
-      air = record { hc = read _ (h .1 .0); co = read _ (co .1 .0); nox = read _ (nox .1 .0); co2 = read _ (co2 .1 .0) };
+      bag = λ gas. read (messageAt gas (p .bag)) (readings gas .0);
+      air = λ gas. read (messageAt gas (p .air)) (readings gas .1 .0);
     }
 
 -- class 3 has the checks of the third part

@@ -13,11 +13,19 @@ use Rattle.reading.specs.declared.Message.{Message}
 use Rattle.reading.specs.declared.Reading as read
 use Rattle.reading.specs.declared.Reading.the-variants.{Units, Unusable}
 use Rattle.reading.specs.Units.{unitsOf}
+use Rattle.reading.specs.Gas.{Gas, numberOf, among, along, messageAt}
 use Rattle.bag.specs.declared.Triple.{Triple}
 use Rattle.bag.specs.declared.Fuel.{Fuel}
+use Rattle.bag.specs.declared.Densities.{Densities}
 use Rattle.bag.specs.declared.Limits.{Limits}
 use Rattle.bag.specs.declared.Part.{Part}
 use Rattle.bag.specs.declared.BagSheet.{BagSheet}
+
+abbrev pub densityAt : Gas → Densities → ℕ
+densityAt gas d = among gas (d .hc) (d .co) (d .nox) (d .co2)
+
+abbrev pub limitAt : Gas → Limits → ℕ
+limitAt gas l = among gas (l .hc) (l .co) (l .nox) (l .co2)
 
 -- "class 1, parts 50 and 50 percent; class 2, 30 and 70; class 3, 25, 50 and 25"
 abbrev pub partsOf : ℕ → ℕ
@@ -45,11 +53,7 @@ testChecks triple fuel limits =
     ∷ value 0 11 (within 0 1000 (fuel .co))
     ∷ value 0 11 (within 0 1000 (fuel .co2))
     ∷ value 0 11 (within 600 1000 (fuel .density))
-    ∷ value 0 12 (leb (limits .hc) 1000000000000)
-    ∷ value 0 12 (leb (limits .co) 1000000000000)
-    ∷ value 0 12 (leb (limits .nox) 1000000000000)
-    ∷ value 0 12 (leb (limits .co2) 1000000000000)
-    ∷ []
+    ∷ along (λ gas. value 0 12 (leb (limitAt gas limits) 1000000000000) ∷ [])
 
 -- "with field 1 at most 10^9 ml", which is field 2
 abbrev pub pumped : ℕ → ℕ → Bool
@@ -67,11 +71,7 @@ valueChecks part p =
     ∷ value part 6 (within 0 1000 (p .humidity))
     ∷ value part 7 (within 0 12000 (p .saturation))
     ∷ value part 8 (within 100 100000 (p .distance))
-    ∷ value part 9 (within 1 2100000 (p .density .hc))
-    ∷ value part 9 (within 1 2100000 (p .density .co))
-    ∷ value part 9 (within 1 2100000 (p .density .nox))
-    ∷ value part 9 (within 1 2100000 (p .density .co2))
-    ∷ []
+    ∷ along (λ gas. value part 9 (within 1 2100000 (densityAt gas (p .density))) ∷ [])
 
 -- 12: "reading unusable"
 abbrev pub usable : read.Reading → Bool
@@ -85,13 +85,8 @@ readingCheck part gas side message = record { holds = usable (unitsOf message); 
 abbrev pub gasChecks : ℕ → ℕ → Message → Message → List Check
 gasChecks part gas bag air = readingCheck part gas 1 bag ∷ readingCheck part gas 2 air ∷ []
 
--- "gases go HC, CO, NOx, CO2"
 unfoldable pub readingChecks : ℕ → Part → List Check
-readingChecks part p =
-    gasChecks part 1 (p .bag .hc) (p .air .hc)
-    ++ (gasChecks part 2 (p .bag .co) (p .air .co)
-    ++ (gasChecks part 3 (p .bag .nox) (p .air .nox)
-    ++ gasChecks part 4 (p .bag .co2) (p .air .co2)))
+readingChecks part p = along (λ gas. gasChecks part (numberOf gas) (messageAt gas (p .bag)) (messageAt gas (p .air)))
 
 -- the checks of the third part, which class 3 alone has
 abbrev pub ofThird : ℕ → List Check → List Check

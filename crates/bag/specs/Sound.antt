@@ -5,12 +5,12 @@ use lib.IntN.{pos, negsuc}
 use lib.Signed.{_≤ℤ_}
 use Rattle.arith.specs.declared.Ends.{Ends}
 use Rattle.reading.specs.declared.Message.{Message}
-use Rattle.reading.specs.declared.Bag.{Bag}
 use Rattle.reading.specs.declared.Reading.the-variants.{Units}
 use Rattle.reading.specs.Units.{unitsOf}
+use Rattle.reading.specs.Gas.{Gas, messageAt}
 use Rattle.bag.specs.declared.Part.{Part}
 use Rattle.bag.specs.declared.BagSheet.{BagSheet}
-use Rattle.bag.specs.Sheet.{partsOf}
+use Rattle.bag.specs.Sheet.{partsOf, densityAt, limitAt}
 
 -- fields 1 to 9 of a part
 pub record Ranged (p : Part) : Type 0 where
@@ -23,26 +23,17 @@ pub record Ranged (p : Part) : Type 0 where
   pub humidity : p .humidity ≤ 1000
   pub saturation : p .saturation ≤ 12000
   pub distance : (100 ≤ p .distance) × (p .distance ≤ 100000)
-  pub hcDensity : (1 ≤ p .density .hc) × (p .density .hc ≤ 2100000)
-  pub coDensity : (1 ≤ p .density .co) × (p .density .co ≤ 2100000)
-  pub noxDensity : (1 ≤ p .density .nox) × (p .density .nox ≤ 2100000)
-  pub co2Density : (1 ≤ p .density .co2) × (p .density .co2 ≤ 2100000)
+  pub density : (gas : Gas) → (1 ≤ densityAt gas (p .density)) × (densityAt gas (p .density) ≤ 2100000)
 
 -- a message with its ends in units
 pub record Read (message : Message) : Type 0 where
   pub ends : Ends
   pub units : unitsOf message ≡ Units ends
 
-pub record Readable (b : Bag) : Type 0 where
-  pub hc : Read (b .hc)
-  pub co : Read (b .co)
-  pub nox : Read (b .nox)
-  pub co2 : Read (b .co2)
-
 pub record SoundPart (p : Part) : Type 0 where
   pub ranged : Ranged p
-  pub bag : Readable (p .bag)
-  pub air : Readable (p .air)
+  pub bag : (gas : Gas) → Read (messageAt gas (p .bag))
+  pub air : (gas : Gas) → Read (messageAt gas (p .air))
 
 -- the class, and fields 10 to 12
 pub record Tested (s : BagSheet) : Type 0 where
@@ -56,10 +47,7 @@ pub record Tested (s : BagSheet) : Type 0 where
   pub coFactor : s .fuel .co ≤ 1000
   pub co2Factor : s .fuel .co2 ≤ 1000
   pub fuelDensity : (600 ≤ s .fuel .density) × (s .fuel .density ≤ 1000)
-  pub hcLimit : s .limits .hc ≤ 1000000000000
-  pub coLimit : s .limits .co ≤ 1000000000000
-  pub noxLimit : s .limits .nox ≤ 1000000000000
-  pub co2Limit : s .limits .co2 ≤ 1000000000000
+  pub limit : (gas : Gas) → limitAt gas (s .limits) ≤ 1000000000000
 
 pub record Sound (s : BagSheet) : Type 0 where
   pub tested : Tested s

@@ -7,78 +7,77 @@ use native.Mathlib.Omega.{arith}
 use lib.Dec.{eqb}
 use borrow.Author.Tests.{eqb-true}
 use lib.IntN.{pos}
-use Rattle.arith.specs.Fraction.{Between}
+use Rattle.arith.specs.Fraction.{Between, _*ᶠ_}
 use Rattle.arith.proofs.Enclosure.{exactly-holds}
 use Rattle.reading.specs.declared.Bag.{Bag}
+use Rattle.reading.specs.Gas.{Gas, HC, CO, CO2, isNOx, messageAt}
 use Rattle.bag.specs.declared.Part.{Part}
 use Rattle.bag.specs.declared.Triple.{Triple}
 use Rattle.bag.specs.declared.BagSheet.{BagSheet}
+use Rattle.bag.specs.Sheet.{densityAt}
 use Rattle.bag.specs.Sound.{Tested}
 use Rattle.bag.proofs.Sound.{accepted-sound}
-use Rattle.stage.specs.Part.{gOf, qOf}
+use Rattle.stage.specs.Part.{gOf, qOf, noxMassOf}
 use Rattle.stage.specs.Test.{weightsOf}
-use Rattle.part.specs.Part.{readingsOf, sidesOf, gIn, volumeIn, gasMass, massesOf, correctedFor, massIn, partOf}
+use Rattle.part.specs.Part.{endsAt, readingsOf, sidesOf, gIn, gasMass, massIn, ratesOf, partOf}
 use Rattle.part.specs.Room.{PartRanges}
+use Rattle.part.proofs.Each.{each-at}
 use Rattle.part.proofs.Sizes.{volume-ranges, kh-ranges}
 use Rattle.emission.specs.declared.TestResult.{TestResult}
 use Rattle.emission.specs.declared.Answer.the-variants.{Result}
-use Rattle.emission.specs.Test.{readingsIn, noPart, thirdPart, partsIn, resultOf, testAnswer}
+use Rattle.emission.specs.Test.{readingsIn, nothing, noPart, thirdPart, partsIn, weightedGases, resultOf, testAnswer}
 use Rattle.emission.specs.Room.{PartsRanges}
 use Rattle.emission.proofs.Ranges.{parts-ranges}
-use Rattle.claims.specs.Gas.{Gas, HC, CO, NOx, CO2, endsAt, messageAt, densityAt}
 use Rattle.claims.specs.Exact.{count, units, exactG, exactConcentration, exactGasVolume, exactDryMass, exactKh, exactMass, exactRate, exactThird, exactWeighted, exactFuel}
 use Rattle.claims.specs.Statements.{Contained}
 use Rattle.claims.proofs.Accepted.{accepted-result}
-use Rattle.claims.proofs.Gases.{rate-at, weighted-at, nothing-at}
+use Rattle.claims.proofs.Gases.{dryMassIn, khIn, mass-at}
 use Rattle.claims.proofs.Stages.{reading-holds, volume-holds, combination-holds, concentration-holds, gas-volume-holds, mass-holds, kh-holds, nox-mass-holds, rate-holds, weighted-holds, fuel-holds}
 
 -- ---- readings
 reading-at : (gas : Gas) (bag : Bag) → Between (endsAt gas (readingsOf bag)) (units (messageAt gas bag))
 unfolding readingsOf
-reading-at HC bag = reading-holds (bag .hc)
-reading-at CO bag = reading-holds (bag .co)
-reading-at NOx bag = reading-holds (bag .nox)
-reading-at CO2 bag = reading-holds (bag .co2)
+reading-at gas bag = rw (each-at gas) (reading-holds (messageAt gas bag))
 
 -- ---- a part
 module _ {t : Triple} {p : Part} (r : PartRanges t p (sidesOf p)) (d : 100 ≤ t .d) where
   g-in : Between (gIn t (readingsOf (p .bag))) (exactG t p)
-  unfolding gOf exactG readingsOf
-  g-in = combination-holds 10 (t .wc) (t .wh) (reading-holds (p .bag .co2)) (reading-holds (p .bag .co)) (reading-holds (p .bag .hc))
+  unfolding gOf exactG
+  g-in = combination-holds 10 (t .wc) (t .wh) (reading-at CO2 (p .bag)) (reading-at CO (p .bag)) (reading-at HC (p .bag))
 
-  dry-mass : (gas : Gas) →
-      Between (gasMass (volumeIn p) (endsAt gas (readingsOf (p .bag))) (endsAt gas (readingsOf (p .air))) (gIn t (readingsOf (p .bag))) (qOf (t .d)) (densityAt gas (p .density))) (exactDryMass gas t p)
+  dry-mass : (gas : Gas) → Between (dryMassIn gas t p) (exactDryMass gas t p)
   unfolding gasMass exactDryMass exactGasVolume exactConcentration
   dry-mass gas =
       mass-holds (densityAt gas (p .density))
       (gas-volume-holds (volume-holds p (volume-ranges r)) (concentration-holds (qOf (t .d)) (omega arith) (reading-at gas (p .bag)) (reading-at gas (p .air)) g-in))
 
   mass-in : (gas : Gas) → Between (endsAt gas (massIn t p (sidesOf p))) (exactMass gas t p)
-  unfolding massIn massesOf correctedFor exactMass
-  mass-in HC = dry-mass HC
-  mass-in CO = dry-mass CO
-  mass-in NOx = nox-mass-holds (exactKh p) (dry-mass NOx) (kh-holds p (kh-ranges r))
-  mass-in CO2 = dry-mass CO2
+  unfolding exactMass
+  mass-in gas = rw (mass-at gas) (go (isNOx gas))
+    where
+      go : (b : Bool) → Between (cond b (noxMassOf (dryMassIn gas t p) (khIn p)) (dryMassIn gas t p)) (cond b (exactDryMass gas t p *ᶠ exactKh p) (exactDryMass gas t p))
+      go true = nox-mass-holds (exactKh p) (dry-mass gas) (kh-holds p (kh-ranges r))
+      go false = dry-mass gas
 
   rate-in : (gas : Gas) → Between (endsAt gas (partOf t p (sidesOf p) .rate)) (exactRate gas t p)
-  unfolding partOf exactRate
-  rate-in gas = rw (rate-at gas) (rate-holds (p .distance) (omega (arith, r .ranged .distance .0)) (mass-in gas))
+  unfolding partOf ratesOf exactRate
+  rate-in gas = rw (each-at gas) (rate-holds (p .distance) (omega (arith, r .ranged .distance .0)) (mass-in gas))
 
 -- ---- the test
 module _ {s : BagSheet} (t : Tested s) (r : PartsRanges s (readingsIn s)) where
   third-in : (gas : Gas) → Between (endsAt gas (thirdPart s (sidesOf (s .third)) .rate)) (exactThird gas s)
-  unfolding thirdPart exactThird
+  unfolding thirdPart nothing exactThird
   third-in gas = go (eqb (s .class) 3) (eqb-true (s .class) 3)
     where
       go : (b : Bool) → (b ≡ true → s .class ≡ 3) →
           Between (endsAt gas (cond b (partOf (s .triple) (s .third) (sidesOf (s .third))) noPart .rate)) (cond b (exactRate gas (s .triple) (s .third)) (count 0))
       go true f = rate-in (r .third (f refl)) (t .d .0) gas
-      go false f = rw (nothing-at gas) (exactly-holds (pos 0))
+      go false f = rw (each-at gas) (exactly-holds (pos 0))
 
   weighted-in : (gas : Gas) → Between (endsAt gas (resultOf s (partsIn s (readingsIn s)) .weighted)) (exactWeighted gas s)
-  unfolding resultOf partsIn exactWeighted
+  unfolding resultOf partsIn weightedGases exactWeighted
   weighted-in gas =
-      rw (weighted-at gas) (weighted-holds (weightsOf (s .class)) (rate-in (r .first) (t .d .0) gas) (rate-in (r .second) (t .d .0) gas) (third-in gas))
+      rw (each-at gas) (weighted-holds (weightsOf (s .class)) (rate-in (r .first) (t .d .0) gas) (rate-in (r .second) (t .d .0) gas) (third-in gas))
 
   fuel-in : Between (resultOf s (partsIn s (readingsIn s)) .fuel) (exactFuel s)
   unfolding resultOf exactFuel

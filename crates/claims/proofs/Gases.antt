@@ -1,41 +1,22 @@
--- What the definitions do with four gases, they do with each. Assumes nothing.
-use mathlib.Core.Path.{_≡_, refl}
-use Prim.Native.Nat.{ℕ}
-use lib.IntN.{pos}
-use Rattle.arith.specs.Stages.{exactly}
-use Rattle.bag.specs.declared.Limits.{Limits}
-use Rattle.stage.specs.declared.Weights.{Weights}
-use Rattle.stage.specs.Part.{rateOf}
-use Rattle.stage.specs.Test.{weightedOf, verdictOf}
-use Rattle.part.specs.declared.Gases.{Gases}
-use Rattle.part.specs.Part.{ratesOf}
-use Rattle.emission.specs.Test.{noPart, weightedGases, verdictsOf}
-use Rattle.claims.specs.Gas.{Gas, HC, CO, NOx, CO2, endsAt, limitAt, verdictAt}
+-- A part's mass of each gas, from the stages. Assumes nothing.
+use mathlib.Core.Path.{_≡_}
+use mathlib.Core.Bool.{cond}
+use Rattle.arith.specs.declared.Ends.{Ends}
+use Rattle.reading.specs.Gas.{Gas, isNOx}
+use Rattle.bag.specs.declared.Part.{Part}
+use Rattle.bag.specs.declared.Triple.{Triple}
+use Rattle.bag.specs.Sheet.{densityAt}
+use Rattle.stage.specs.Part.{qOf, khOf, noxMassOf}
+use Rattle.part.specs.Part.{endsAt, readingsOf, sidesOf, gIn, volumeIn, gasMass, massesOf, correctedFor, massIn}
+use Rattle.part.proofs.Each.{each-at}
 
-pub rate-at : (gas : Gas) (mass : Gases) (distance : ℕ) → endsAt gas (ratesOf mass distance) ≡ rateOf (endsAt gas mass) distance
-unfolding ratesOf
-rate-at HC mass distance = refl
-rate-at CO mass distance = refl
-rate-at NOx mass distance = refl
-rate-at CO2 mass distance = refl
+abbrev pub dryMassIn : Gas → Triple → Part → Ends
+dryMassIn gas t p =
+    gasMass (volumeIn p) (endsAt gas (readingsOf (p .bag))) (endsAt gas (readingsOf (p .air))) (gIn t (readingsOf (p .bag))) (qOf (t .d)) (densityAt gas (p .density))
 
-pub weighted-at :
-    (gas : Gas) (w : Weights) (first second third : Gases) → endsAt gas (weightedGases w first second third) ≡ weightedOf w (endsAt gas first) (endsAt gas second) (endsAt gas third)
-unfolding weightedGases
-weighted-at HC w first second third = refl
-weighted-at CO w first second third = refl
-weighted-at NOx w first second third = refl
-weighted-at CO2 w first second third = refl
+abbrev pub khIn : Part → Ends
+khIn p = khOf (p .humidity) (p .saturation) (p .barometer)
 
-pub nothing-at : (gas : Gas) → endsAt gas (noPart .rate) ≡ exactly (pos 0)
-nothing-at HC = refl
-nothing-at CO = refl
-nothing-at NOx = refl
-nothing-at CO2 = refl
-
-pub verdict-at : (gas : Gas) (weighted : Gases) (limits : Limits) → verdictAt gas (verdictsOf weighted limits) ≡ verdictOf (endsAt gas weighted) (limitAt gas limits)
-unfolding verdictsOf
-verdict-at HC weighted limits = refl
-verdict-at CO weighted limits = refl
-verdict-at NOx weighted limits = refl
-verdict-at CO2 weighted limits = refl
+pub mass-at : (gas : Gas) (t : Triple) (p : Part) → endsAt gas (massIn t p (sidesOf p)) ≡ cond (isNOx gas) (noxMassOf (dryMassIn gas t p) (khIn p)) (dryMassIn gas t p)
+unfolding massIn massesOf correctedFor
+mass-at gas t p = rw (each-at gas, each-at gas)

@@ -11,16 +11,17 @@ use Rattle.arith.specs.declared.Ends.{Ends}
 use Rattle.arith.specs.Fraction.{Fraction, Between}
 use Rattle.arith.proofs.Ring.{mul-mono, mul-mono-<, ≤-trans, <-≤, ≤-or-<}
 use Rattle.arith.proofs.Machine.{lt-true, lt-false, le-true}
+use Rattle.reading.specs.Gas.{Gas}
 use Rattle.bag.specs.declared.BagSheet.{BagSheet}
+use Rattle.bag.specs.Sheet.{limitAt}
 use Rattle.stage.specs.declared.Verdict.the-variants.{Pass, Fail, Undecided}
 use Rattle.stage.specs.Test.{verdictOf}
 use Rattle.emission.specs.declared.TestResult.{TestResult}
 use Rattle.emission.specs.declared.Answer.the-variants.{Result}
 use Rattle.emission.specs.Test.{readingsIn, partsIn, verdictsOf, resultOf, testAnswer}
-use Rattle.claims.specs.Gas.{Gas, limitAt}
+use Rattle.emission.proofs.Each.{verdict-at}
 use Rattle.claims.specs.Statements.{Justified, JustifiedIn}
 use Rattle.claims.proofs.Accepted.{accepted-result}
-use Rattle.claims.proofs.Gases.{verdict-at}
 use Rattle.claims.proofs.Contained.{contained}
 
 -- a test that failed, strictly
@@ -65,4 +66,5 @@ unfolding resultOf
 verdicts-in s r e = rw e
 
 pub verdicts : (s : BagSheet) (r : TestResult) → testAnswer s ≡ Result r → (gas : Gas) → JustifiedIn s r gas
+unfolding verdictsOf
 verdicts s r e gas = rw (verdicts-in s r (accepted-result e .result), verdict-at gas) (justified (contained s r e .weighted gas) (limitAt gas (s .limits)))

@@ -19,29 +19,31 @@ use Rattle.arith.proofs.Width.{exactly-narrow, wider-narrow, sum-narrow, differ
 use Rattle.reading.specs.declared.Message.{Message}
 use Rattle.reading.specs.declared.Bag.{Bag}
 use Rattle.reading.specs.Units.{unitsOf}
+use Rattle.reading.specs.Gas.{Gas, HC, CO, CO2, isNOx, messageAt}
 use Rattle.bag.specs.declared.Part.{Part}
 use Rattle.bag.specs.declared.Triple.{Triple}
 use Rattle.bag.specs.declared.BagSheet.{BagSheet}
+use Rattle.bag.specs.Sheet.{densityAt}
 use Rattle.bag.specs.Sound.{Tested}
 use Rattle.bag.proofs.Sound.{accepted-sound}
 use Rattle.stage.specs.declared.Weights.{Weights}
 use Rattle.stage.specs.Combination.{combinationOf}
 use Rattle.stage.specs.Part.{gtr, kelvinOf, volumeOf, gOf, qOf, concentrationOf, gasVolumeOf, massOf, khOf, noxMassOf, rateOf}
 use Rattle.stage.specs.Test.{weightsOf, weightedOf}
-use Rattle.stage.specs.Ranges.{UpTo, largestReading, largestConcentration}
-use Rattle.stage.proofs.Sizes.{kelvin-least, concentration-size, vapour-most, divisor-least, kh-size, weights-whole}
-use Rattle.part.specs.Part.{endsOf, readingsOf, sidesOf, gIn, volumeIn, gasMass, massesOf, correctedFor, massIn, partOf}
+use Rattle.stage.specs.Ranges.{largestConcentration}
+use Rattle.stage.proofs.Sizes.{kelvin-least, vapour-most, divisor-least, kh-size, weights-whole}
+use Rattle.part.specs.Part.{endsAt, endsOf, readingsOf, sidesOf, volumeIn, gasMass, massIn, ratesOf, partOf}
 use Rattle.part.specs.Room.{PartRanges}
-use Rattle.part.proofs.Sizes.{readings-sizes, volume-ranges, masses-ranges, kh-ranges}
+use Rattle.part.proofs.Each.{each-at}
+use Rattle.part.proofs.Sizes.{volume-ranges, masses-ranges, concentration-sizes, kh-ranges}
 use Rattle.emission.specs.declared.TestResult.{TestResult}
 use Rattle.emission.specs.declared.Answer.the-variants.{Result}
-use Rattle.emission.specs.Test.{readingsIn, noPart, thirdPart, partsIn, resultOf, testAnswer}
+use Rattle.emission.specs.Test.{readingsIn, nothing, noPart, thirdPart, partsIn, weightedGases, resultOf, testAnswer}
 use Rattle.emission.specs.Room.{PartsRanges}
 use Rattle.emission.proofs.Ranges.{parts-ranges}
-use Rattle.claims.specs.Gas.{Gas, HC, CO, NOx, CO2, among, endsAt, densityAt}
 use Rattle.claims.specs.Statements.{concentrationIn, Ordinary, OrdinaryTest, widthOf}
 use Rattle.claims.proofs.Accepted.{accepted-result}
-use Rattle.claims.proofs.Gases.{rate-at, weighted-at, nothing-at}
+use Rattle.claims.proofs.Gases.{dryMassIn, khIn, mass-at}
 use Rattle.claims.proofs.Stages.{reading-number}
 
 -- ---- exact numbers: what is made of them without a rounding has both ends the same
@@ -64,10 +66,7 @@ reading-narrow message = let u = reading-number message in rw (u .exact) (exactl
 
 reading-narrow-at : (gas : Gas) (bag : Bag) → Narrow 0 (endsAt gas (readingsOf bag))
 unfolding readingsOf
-reading-narrow-at HC bag = reading-narrow (bag .hc)
-reading-narrow-at CO bag = reading-narrow (bag .co)
-reading-narrow-at NOx bag = reading-narrow (bag .nox)
-reading-narrow-at CO2 bag = reading-narrow (bag .co2)
+reading-narrow-at gas bag = rw (each-at gas) (reading-narrow (messageAt gas bag))
 
 -- ---- one law a stage
 combination-narrow : {w : ℕ} {a b c : Ends} (j k l : ℕ) → Narrow w a → Narrow w b → Narrow w c → Narrow (j * w + k * w + l * w) (combinationOf j a k b l c)
@@ -103,15 +102,9 @@ weighted-narrow {w} weights e a b c =
     divided-narrow 100 (omega arith) (wider-narrow (omega arith) (combination-narrow (weights .first) (weights .second) (weights .third) a b c))
 
 -- ---- a part
-reading-at : (gas : Gas) (bag : Bag) → UpTo largestReading (endsAt gas (readingsOf bag))
-reading-at HC bag = readings-sizes bag .hc
-reading-at CO bag = readings-sizes bag .co
-reading-at NOx bag = readings-sizes bag .nox
-reading-at CO2 bag = readings-sizes bag .co2
-
 -- of the mass of each gas
 abbrev massWidth : Gas → ℕ
-massWidth gas = among gas 245 245 1941 245
+massWidth gas = cond (isNOx gas) 1941 245
 
 module _ {t : Triple} {p : Part} (r : PartRanges t p (sidesOf p)) (d : 100 ≤ t .d) where
   volume-narrow : Narrow 1 (volumeIn p)
@@ -138,24 +131,12 @@ module _ {t : Triple} {p : Part} (r : PartRanges t p (sidesOf p)) (d : 100 ≤ t
       concentration-narrow (qOf (t .d)) (omega arith) (b gas (p .bag)) (b gas (p .air))
       (wider-narrow (omega arith) (combination-narrow 10 (t .wc) (t .wh) (b CO2 (p .bag)) (b CO (p .bag)) (b HC (p .bag))))
 
-  density-at : (gas : Gas) → densityAt gas (p .density) ≤ 2100000
-  density-at HC = r .ranged .hcDensity .1
-  density-at CO = r .ranged .coDensity .1
-  density-at NOx = r .ranged .noxDensity .1
-  density-at CO2 = r .ranged .co2Density .1
-
-  concentration-sized : (gas : Gas) → Sized largestConcentration (concentrationIn gas t p)
-  concentration-sized gas =
-      let m = masses-ranges r in
-      concentration-size (record { bag-reading = reading-at gas (p .bag); air-reading = reading-at gas (p .air); g-range = m .g-range; good = m .good; q-most = m .q-most })
-
   -- 200,000,000 + 268,435,456 is at most 4,096,000 x 115, and 2,100,000 x 116 at most 1,000,000 x 244
-  dry-mass : (gas : Gas) → Ordinary gas t p →
-      Narrow 245 (gasMass (volumeIn p) (endsAt gas (readingsOf (p .bag))) (endsAt gas (readingsOf (p .air))) (gIn t (readingsOf (p .bag))) (qOf (t .d)) (densityAt gas (p .density)))
+  dry-mass : (gas : Gas) → Ordinary gas t p → Narrow 245 (dryMassIn gas t p)
   unfolding gasMass
   dry-mass gas o =
-      mass-narrow (densityAt gas (p .density)) 116 244 (density-at gas) (omega arith)
-      (gas-volume-narrow largestConcentration 115 (omega arith) (volume-sized (o .volume)) (concentration-sized gas) volume-narrow (concentration-narrow-in gas))
+      mass-narrow (densityAt gas (p .density)) 116 244 (r .ranged .density gas .1) (omega arith)
+      (gas-volume-narrow largestConcentration 115 (omega arith) (volume-sized (o .volume)) (concentration-sizes (masses-ranges r) gas) volume-narrow (concentration-narrow-in gas))
 
   kh-narrow : Narrow 1 (khOf (p .humidity) (p .saturation) (p .barometer))
   unfolding khOf
@@ -168,53 +149,52 @@ module _ {t : Triple} {p : Part} (r : PartRanges t p (sidesOf p)) (d : 100 ≤ t
 
   -- within 256 ppm of zero the gas volume is at most 51,200,000 and its ends 51 apart, the mass 107,520,000 and 109 apart; and
   -- 107,520,000 + 179,536 x 109 is at most 65,536 x 1,940
-  nox-mass : Ordinary NOx t p → Narrow 1941 (endsAt NOx (massIn t p (sidesOf p)))
-  unfolding massIn massesOf correctedFor noxMassOf gasMass massOf gasVolumeOf
-  nox-mass o =
+  nox-mass : (gas : Gas) → Ordinary gas t p → Sized 1048576 (concentrationIn gas t p) → Narrow 1941 (noxMassOf (dryMassIn gas t p) (khIn p))
+  unfolding noxMassOf gasMass massOf gasVolumeOf
+  nox-mass gas o c =
       let v = volume-sized (o .volume) in
-      let c = o .nox refl in
+      let d = densityAt gas (p .density) in
+      let most = r .ranged .density gas .1 in
       let gas-size = divided-size {q = 51200000} 4096000 (omega arith) (wider-size (omega arith) (product-size v c)) in
-      let mass-size = divided-size {q = 107520000} 1000000 (omega arith) (wider-size (omega arith) (scaled-size (pos (p .density .nox)) (density-at NOx) gas-size)) in
-      let mass = mass-narrow (p .density .nox) 51 108 (density-at NOx) (omega arith) (gas-volume-narrow 1048576 50 (omega arith) v c volume-narrow (concentration-narrow-in NOx)) in
+      let mass-size = divided-size {q = 107520000} 1000000 (omega arith) (wider-size (omega arith) (scaled-size (pos d) most gas-size)) in
+      let mass = mass-narrow d 51 108 most (omega arith) (gas-volume-narrow 1048576 50 (omega arith) v c volume-narrow (concentration-narrow-in gas)) in
       divided-narrow {q = 1940} 65536 (omega arith) (wider-narrow (omega arith) (product-narrow mass-size (kh-size (kh-ranges r)) mass kh-narrow))
 
   mass-in : (gas : Gas) → Ordinary gas t p → Narrow (massWidth gas) (endsAt gas (massIn t p (sidesOf p)))
-  unfolding massIn massesOf correctedFor
-  mass-in HC o = dry-mass HC o
-  mass-in CO o = dry-mass CO o
-  mass-in NOx o = nox-mass o
-  mass-in CO2 o = dry-mass CO2 o
+  mass-in gas o = rw (mass-at gas) (go (isNOx gas) (o .nox))
+    where
+      go : (b : Bool) → (b ≡ true → Sized 1048576 (concentrationIn gas t p)) → Narrow (cond b 1941 245) (cond b (noxMassOf (dryMassIn gas t p) (khIn p)) (dryMassIn gas t p))
+      go true c = nox-mass gas o (c refl)
+      go false c = dry-mass gas o
 
   rate-in : (gas : Gas) → Ordinary gas t p → Narrow (suc (massWidth gas)) (endsAt gas (partOf t p (sidesOf p) .rate))
-  unfolding partOf
-  rate-in gas o = rw (rate-at gas) (rate-narrow (p .distance) (o .distance) (mass-in gas o))
+  unfolding partOf ratesOf
+  rate-in gas o = rw (each-at gas) (rate-narrow (p .distance) (o .distance) (mass-in gas o))
 
 -- ---- the test
 module _ {s : BagSheet} (t : Tested s) (r : PartsRanges s (readingsIn s)) where
   third-in : (gas : Gas) → OrdinaryTest gas s → Narrow (suc (massWidth gas)) (endsAt gas (thirdPart s (sidesOf (s .third)) .rate))
-  unfolding thirdPart
+  unfolding thirdPart nothing
   third-in gas o = go (eqb (s .class) 3) (eqb-true (s .class) 3)
     where
       go : (b : Bool) → (b ≡ true → s .class ≡ 3) → Narrow (suc (massWidth gas)) (endsAt gas (cond b (partOf (s .triple) (s .third) (sidesOf (s .third))) noPart .rate))
       go true f = rate-in (r .third (f refl)) (t .d .0) gas (o .third (f refl))
-      go false f = rw (nothing-at gas) (wider-narrow (omega arith) (exactly-narrow (pos 0)))
+      go false f = rw (each-at gas) (wider-narrow (omega arith) (exactly-narrow (pos 0)))
 
   weighted-in : (gas : Gas) → OrdinaryTest gas s → Narrow (suc (suc (massWidth gas))) (endsAt gas (resultOf s (partsIn s (readingsIn s)) .weighted))
-  unfolding resultOf partsIn
+  unfolding resultOf partsIn weightedGases
   weighted-in gas o =
-      rw (weighted-at gas)
+      rw (each-at gas)
       (weighted-narrow (weightsOf (s .class)) (weights-whole (s .class) (t .class .0) (t .class .1))
       (rate-in (r .first) (t .d .0) gas (o .first)) (rate-in (r .second) (t .d .0) gas (o .second)) (third-in gas o))
 
 -- each stage after the mass adds one
-room : (gas : Gas) → suc (suc (massWidth gas)) ≤ widthOf gas
-room HC = omega arith
-room CO = omega arith
-room NOx = omega arith
-room CO2 = omega arith
+room : (b : Bool) → suc (suc (cond b 1941 245)) ≤ cond b 2000 300
+room true = omega arith
+room false = omega arith
 
 pub widths : (s : BagSheet) (r : TestResult) → testAnswer s ≡ Result r → (gas : Gas) → OrdinaryTest gas s → Narrow (widthOf gas) (endsAt gas (r .weighted))
 widths s r e gas o =
     let a = accepted-result e in
     let sound = accepted-sound s (a .sheet) in
-    rw (a .result) (wider-narrow (room gas) (weighted-in (sound .tested) (parts-ranges sound (a .late)) gas o))
+    rw (a .result) (wider-narrow (room (isNOx gas)) (weighted-in (sound .tested) (parts-ranges sound (a .late)) gas o))

@@ -2,13 +2,15 @@
 use mathlib.Core.Path.{_≡_, refl}
 use mathlib.Core.Bool.{Bool, true, false, cond}
 use mathlib.Core.List.{[], _∷_}
+use Prim.Native.Nat.{_*_, _≤_}
 use native.Mathlib.Omega.{arith}
 use lib.Dec.{eqb}
 use borrow.Author.Tests.{eqb-true}
 use lib.IntN.{pos}
-use Rattle.arith.proofs.Size.{exactly-size}
+use Rattle.arith.proofs.Size.{exactly-size, wider-size}
 use Rattle.refusal.specs.declared.Judged.the-variants.{Accepted}
 use Rattle.refusal.proofs.Judging.{judged-holds}
+use Rattle.reading.specs.Gas.{Gas, isNOx}
 use Rattle.bag.specs.declared.BagSheet.{BagSheet}
 use Rattle.bag.specs.declared.Part.{Part}
 use Rattle.bag.specs.declared.Triple.{Triple}
@@ -16,14 +18,16 @@ use Rattle.bag.specs.Sheet.{ofThird}
 use Rattle.bag.specs.Sound.{Tested, Sound}
 use Rattle.bag.proofs.Sound.{apart, third-holds}
 use Rattle.stage.specs.declared.Weights.{Weights}
+use Rattle.stage.specs.Ranges.{WeightedRanges, largestMass, largestNoxMass, largestRate}
 use Rattle.stage.proofs.Sizes.{rate-size, weighted-size}
 use Rattle.part.specs.declared.Gases.{Gases}
 use Rattle.part.specs.declared.Sides.{Sides}
-use Rattle.part.specs.Part.{diluted, dryEnough, ratesOf, partOf}
+use Rattle.part.specs.Part.{endsAt, diluted, dryEnough, ratesOf, partOf}
 use Rattle.part.specs.Room.{TripleRanges, PartRanges}
+use Rattle.part.proofs.Each.{each-at}
 use Rattle.part.proofs.Sizes.{readings-sizes, mass-in-sizes}
 use Rattle.emission.specs.declared.Readings.{Readings}
-use Rattle.emission.specs.Test.{readingsIn, dilution, humidity, lateChecks, judgeLate, noPart, thirdPart, partsIn, weightedGases}
+use Rattle.emission.specs.Test.{readingsIn, dilution, humidity, lateChecks, judgeLate, nothing, noPart, thirdPart, partsIn, weightedGases}
 use Rattle.emission.specs.Room.{LateRanges, PartsRanges, RateSizes, WeighRanges, ResultRanges}
 
 module _ {s : BagSheet} (h : Sound s) where
@@ -84,24 +88,11 @@ module _ {s : BagSheet} (h : Sound s) where
 -- ---- rates
 rate-sizes : {triple : Triple} {p : Part} {sides : Sides} → PartRanges triple p sides → RateSizes (partOf triple p sides .rate)
 unfolding partOf ratesOf
-rate-sizes {p = p} r =
-    let m = mass-in-sizes r in
-    let d = r .ranged .distance .0 in
-    record {
-      hc = rate-size (p .distance) d (m .hc);
-      co = rate-size (p .distance) d (m .co);
-      nox = rate-size (p .distance) d (m .nox);
-      co2 = rate-size (p .distance) d (m .co2);
-    }
+rate-sizes {p = p} r gas = rw (each-at gas) (rate-size (p .distance) (r .ranged .distance .0) (mass-in-sizes r gas))
 
 no-rates : RateSizes (noPart .rate)
-no-rates =
-    record {
-      hc = exactly-size (pos 0) (omega arith);
-      co = exactly-size (pos 0) (omega arith);
-      nox = exactly-size (pos 0) (omega arith);
-      co2 = exactly-size (pos 0) (omega arith);
-    }
+unfolding nothing
+no-rates gas = rw (each-at gas) (exactly-size (pos 0) (omega arith))
 
 third-sizes : (s : BagSheet) (sides : Sides) → (s .class ≡ 3 → PartRanges (s .triple) (s .third) sides) → RateSizes (thirdPart s sides .rate)
 unfolding thirdPart
@@ -124,13 +115,19 @@ result-ranges {s} {r} t p =
 -- ---- the weighted result
 pub weighted-sizes : {w : Weights} {first second third : Gases} → WeighRanges w first second third → RateSizes (weightedGases w first second third)
 unfolding weightedGases
-weighted-sizes {w} r =
-    let a = r .first-sizes in
-    let b = r .second-sizes in
-    let c = r .third-sizes in
+weighted-sizes {w} r gas = rw (each-at gas) (weighted-size w (r .whole) (r .first-sizes gas) (r .second-sizes gas) (r .third-sizes gas))
+
+-- what weighing asks of each gas: NOx's rates are the largest
+pub weigh-ranges : {w : Weights} {first second third : Gases} → WeighRanges w first second third → (gas : Gas) → WeightedRanges w (endsAt gas first) (endsAt gas second) (endsAt gas third)
+weigh-ranges r gas =
+    let m = most (isNOx gas) in
     record {
-      hc = weighted-size w (r .whole) (a .hc) (b .hc) (c .hc);
-      co = weighted-size w (r .whole) (a .co) (b .co) (c .co);
-      nox = weighted-size w (r .whole) (a .nox) (b .nox) (c .nox);
-      co2 = weighted-size w (r .whole) (a .co2) (b .co2) (c .co2);
+      whole = r .whole;
+      first-size = wider-size m (r .first-sizes gas);
+      second-size = wider-size m (r .second-sizes gas);
+      third-size = wider-size m (r .third-sizes gas);
     }
+  where
+    most : (b : Bool) → 10 * cond b largestNoxMass largestMass ≤ largestRate
+    most true = omega arith
+    most false = omega arith

@@ -2,14 +2,16 @@
 use mathlib.Core.Path.{_≡_}
 use Prim.Native.Nat.{_+_, _*_, _≤_}
 use Rattle.arith.specs.Fitting.{Sized}
+use Rattle.reading.specs.Gas.{Gas}
 use Rattle.bag.specs.declared.BagSheet.{BagSheet}
 use Rattle.bag.specs.declared.Fuel.{Fuel}
 use Rattle.bag.specs.declared.Limits.{Limits}
+use Rattle.bag.specs.Sheet.{limitAt}
 use Rattle.bag.specs.Sound.{Tested, Ranged}
 use Rattle.stage.specs.declared.Weights.{Weights}
-use Rattle.stage.specs.Ranges.{largestMass, largestRate}
 use Rattle.part.specs.declared.Gases.{Gases}
-use Rattle.part.specs.Room.{ReadingSizes, TripleRanges, PartRanges}
+use Rattle.part.specs.Part.{endsAt}
+use Rattle.part.specs.Room.{ReadingSizes, TripleRanges, PartRanges, largestMassOf}
 use Rattle.emission.specs.declared.Readings.{Readings}
 use Rattle.emission.specs.declared.Parts.{Parts}
 
@@ -30,11 +32,8 @@ pub record PartsRanges (s : BagSheet) (r : Readings) : Type 0 where
   pub third : s .class ≡ 3 → PartRanges (s .triple) (s .third) (r .third)
 
 -- rates and weighted results
-pub record RateSizes (g : Gases) : Type 0 where
-  pub hc : Sized (10 * largestMass) (g .hc)
-  pub co : Sized (10 * largestMass) (g .co)
-  pub nox : Sized largestRate (g .nox)
-  pub co2 : Sized (10 * largestMass) (g .co2)
+abbrev pub RateSizes : Gases → Type 0
+RateSizes g = (gas : Gas) → Sized (10 * largestMassOf gas) (endsAt gas g)
 
 pub record WeighRanges (w : Weights) (first second third : Gases) : Type 0 where
   pub whole : w .first + w .second + w .third ≡ 100
@@ -42,11 +41,8 @@ pub record WeighRanges (w : Weights) (first second third : Gases) : Type 0 where
   pub second-sizes : RateSizes second
   pub third-sizes : RateSizes third
 
-pub record LimitRanges (l : Limits) : Type 0 where
-  pub hc : l .hc ≤ 1000000000000
-  pub co : l .co ≤ 1000000000000
-  pub nox : l .nox ≤ 1000000000000
-  pub co2 : l .co2 ≤ 1000000000000
+abbrev pub LimitRanges : Limits → Type 0
+LimitRanges l = (gas : Gas) → limitAt gas l ≤ 1000000000000
 
 pub record FuelSheet (f : Fuel) : Type 0 where
   pub k : f .k ≤ 1500

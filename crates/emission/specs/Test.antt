@@ -11,16 +11,18 @@ use Rattle.refusal.specs.declared.Judged.the-variants.{Accepted}
 use Rattle.refusal.specs.declared.Judged.the-variants as judged
 use Rattle.refusal.specs.declared.Refusal.the-variants.{Dilution, Humidity}
 use Rattle.refusal.specs.Judging.{Check, judgedBy}
+use Rattle.reading.specs.Gas.{Gas, HC, CO, NOx, CO2, among}
 use Rattle.bag.specs.declared.BagSheet.{BagSheet}
 use Rattle.bag.specs.declared.Fuel.{Fuel}
 use Rattle.bag.specs.declared.Limits.{Limits}
-use Rattle.bag.specs.Sheet.{ofThird, judgeSheet}
+use Rattle.bag.specs.Sheet.{limitAt, ofThird, judgeSheet}
+use Rattle.stage.specs.declared.Verdict.{Verdict}
 use Rattle.stage.specs.declared.Weights.{Weights}
 use Rattle.stage.specs.Test.{weightsOf, weightedOf, fuelOf, verdictOf}
 use Rattle.part.specs.declared.Gases.{Gases}
 use Rattle.part.specs.declared.PartResult.{PartResult}
 use Rattle.part.specs.declared.Sides.{Sides}
-use Rattle.part.specs.Part.{sidesOf, diluted, dryEnough, partOf}
+use Rattle.part.specs.Part.{endsAt, each, sidesOf, diluted, dryEnough, partOf}
 use Rattle.emission.specs.declared.Readings.{Readings}
 use Rattle.emission.specs.declared.Parts.{Parts}
 use Rattle.emission.specs.declared.Verdicts.{Verdicts}
@@ -53,8 +55,8 @@ abbrev pub judgeLate : BagSheet → Readings → Judged
 judgeLate s r = judgedBy (lateChecks s r)
 
 -- ---- the parts. A third part that the class does not have is nothing
-abbrev pub nothing : Gases
-nothing = record { hc = exactly (pos 0); co = exactly (pos 0); nox = exactly (pos 0); co2 = exactly (pos 0) }
+unfoldable pub nothing : Gases
+nothing = each (λ gas. exactly (pos 0))
 
 abbrev pub noPart : PartResult
 noPart = record { volume = exactly (pos 0); mass = nothing; rate = nothing }
@@ -73,23 +75,17 @@ partsIn s r =
 -- ---- the result
 -- "Weighted", each gas at the class's weights
 unfoldable pub weightedGases : Weights → Gases → Gases → Gases → Gases
-weightedGases w first second third =
-    record {
-      hc = weightedOf w (first .hc) (second .hc) (third .hc);
-      co = weightedOf w (first .co) (second .co) (third .co);
-      nox = weightedOf w (first .nox) (second .nox) (third .nox);
-      co2 = weightedOf w (first .co2) (second .co2) (third .co2);
-    }
+weightedGases w first second third = each (λ gas. weightedOf w (endsAt gas first) (endsAt gas second) (endsAt gas third))
 
 -- "Verdict per gas"
+abbrev pub verdictAt : Gas → Verdicts → Verdict
+verdictAt gas v = among gas (v .hc) (v .co) (v .nox) (v .co2)
+
+unfoldable pub eachVerdict : (Gas → Verdict) → Verdicts
+eachVerdict f = record { hc = f HC; co = f CO; nox = f NOx; co2 = f CO2 }
+
 unfoldable pub verdictsOf : Gases → Limits → Verdicts
-verdictsOf weighted limits =
-    record {
-      hc = verdictOf (weighted .hc) (limits .hc);
-      co = verdictOf (weighted .co) (limits .co);
-      nox = verdictOf (weighted .nox) (limits .nox);
-      co2 = verdictOf (weighted .co2) (limits .co2);
-    }
+verdictsOf weighted limits = eachVerdict (λ gas. verdictOf (endsAt gas weighted) (limitAt gas limits))
 
 -- "Fuel .. from the weighted ends"
 abbrev pub fuelIn : Fuel → Gases → Ends

@@ -1,24 +1,30 @@
 -- How large a part's readings, masses and rates can be, so that each stage is given what it asks. Assumes nothing.
 use mathlib.Core.Path.{_≡_, refl}
-use Prim.Native.Nat.{ℕ, _≤_}
+use mathlib.Core.Bool.{Bool, true, false, cond}
+use Prim.Native.Nat.{ℕ, _*_, _≤_}
 use native.Mathlib.Omega.{arith}
 use Rattle.arith.specs.declared.Ends.{Ends}
 use Rattle.arith.specs.Fitting.{Sized}
+use Rattle.arith.proofs.Size.{wider-size}
 use Rattle.reading.specs.declared.Bag.{Bag}
 use Rattle.reading.specs.declared.Message.{Message}
 use Rattle.reading.specs.declared.Reading.{Reading}
 use Rattle.reading.specs.declared.Reading.the-variants.{Units, Unusable}
 use Rattle.reading.specs.Units.{unitsOf}
+use Rattle.reading.specs.Gas.{Gas, HC, CO, CO2, isNOx, messageAt}
 use Rattle.reading.proofs.Usable.{usable}
 use Rattle.bag.specs.declared.Part.{Part}
 use Rattle.bag.specs.declared.Triple.{Triple}
 use Rattle.bag.specs.declared.Densities.{Densities}
-use Rattle.stage.specs.Part.{qOf}
-use Rattle.stage.specs.Ranges.{UpTo, VolumeRanges, GRanges, KhRanges, largestReading, largestMass}
-use Rattle.stage.proofs.UpTo.{exactly-upTo}
+use Rattle.bag.specs.Sheet.{densityAt}
+use Rattle.stage.specs.Part.{qOf, concentrationOf, noxMassOf}
+use Rattle.stage.specs.Ranges.{UpTo, VolumeRanges, GRanges, KhRanges, RateRanges, largestReading, largestConcentration, largestMass, largestKh, largestNoxMass}
+use Rattle.stage.proofs.UpTo.{upTo-size, exactly-upTo}
 use Rattle.stage.proofs.Sizes.{volume-size, g-upTo, concentration-size, gas-volume-size, mass-size, kh-size, nox-mass-size}
+use Rattle.part.specs.declared.Gases.{Gases}
 use Rattle.part.specs.declared.Sides.{Sides}
-use Rattle.part.specs.Part.{endsOf, readingsOf, gIn, volumeIn, gasMass, massesOf, correctedFor, massIn}
+use Rattle.part.proofs.Each.{each-at}
+use Rattle.part.specs.Part.{endsAt, endsOf, readingsOf, gIn, volumeIn, gasMass, massesOf, correctedFor, massIn}
 use Rattle.part.specs.Room.{ReadingSizes, GasRanges, MassesRanges, DryMassSizes, MassSizes, PartRanges}
 
 -- ---- readings, usable or not
@@ -31,30 +37,20 @@ reading-upTo message = go (unitsOf message) refl
 
 pub readings-sizes : (bag : Bag) → ReadingSizes (readingsOf bag)
 unfolding readingsOf
-readings-sizes bag =
-    record {
-      hc = reading-upTo (bag .hc);
-      co = reading-upTo (bag .co);
-      nox = reading-upTo (bag .nox);
-      co2 = reading-upTo (bag .co2);
-    }
+readings-sizes bag gas = rw (each-at gas) (reading-upTo (messageAt gas bag))
 
 -- ---- masses
-pub gas-mass-size : {volume bag air g : Ends} {q density : ℕ} → GasRanges volume bag air g q density → Sized largestMass (gasMass volume bag air g q density)
+pub gas-mass-size :
+    {volume bag air g : Ends} {q density : ℕ} (k : ℕ) → GasRanges volume bag air g q density → Sized (k * largestConcentration) (concentrationOf bag air g q) → Sized (k * largestMass) (gasMass volume bag air g q density)
 unfolding gasMass
-gas-mass-size r =
-    mass-size
-    (record {
-      gas-size = gas-volume-size (record { volume-size = r .volume-size; concentration-size = concentration-size (r .ranges) });
-      density-most = r .density-most;
-    })
+gas-mass-size k r c = mass-size k (gas-volume-size k (r .volume-size) c) (r .density-most)
 
 module _ {triple : Triple} {p : Part} {sides : Sides} (r : PartRanges triple p sides) where
   g-ranges : GRanges (sides .bag .co2) (sides .bag .co) (sides .bag .hc) (triple .wc) (triple .wh)
   g-ranges =
       let b = r .bag-sizes in
       let t = r .triple-ranges in
-      record { co2-reading = b .co2; co-reading = b .co; hc-reading = b .hc; wc-most = t .wc-most; wh-most = t .wh-most }
+      record { co2-reading = b CO2; co-reading = b CO; hc-reading = b HC; wc-most = t .wc-most; wh-most = t .wh-most }
 
   pub volume-ranges : VolumeRanges (p .pump) (p .revolutions) (p .barometer) (p .depression) (p .temperature)
   volume-ranges =
@@ -71,10 +67,7 @@ module _ {triple : Triple} {p : Part} {sides : Sides} (r : PartRanges triple p s
         g-range = g-upTo g-ranges;
         good = r .dilution;
         q-most = omega (arith, r .triple-ranges .d-most);
-        hc-most = f .hcDensity .1;
-        co-most = f .coDensity .1;
-        nox-most = f .noxDensity .1;
-        co2-most = f .co2Density .1;
+        density-most = λ gas. f .density gas .1;
       }
 
   pub kh-ranges : KhRanges (p .humidity) (p .saturation) (p .barometer)
@@ -86,34 +79,41 @@ module _ {triple : Triple} {p : Part} {sides : Sides} (r : PartRanges triple p s
       }
 
 module _ {volume g : Ends} {sides : Sides} {q : ℕ} {density : Densities} (r : MassesRanges volume sides g q density) where
-  gas : (bag air : Ends) (d : ℕ) → UpTo largestReading bag → UpTo largestReading air → d ≤ 2100000 → Sized largestMass (gasMass volume bag air g q d)
-  gas bag air d b a h =
-      gas-mass-size
-      (record {
+  pub gas-ranges : (gas : Gas) → GasRanges volume (endsAt gas (sides .bag)) (endsAt gas (sides .air)) g q (densityAt gas density)
+  gas-ranges gas =
+      record {
         volume-size = r .volume-size;
-        ranges = record { bag-reading = b; air-reading = a; g-range = r .g-range; good = r .good; q-most = r .q-most };
-        density-most = h;
-      })
+        ranges =
+            record {
+              bag-size = wider-size (omega arith) (upTo-size (r .bag-sizes gas));
+              air-size = wider-size (omega arith) (upTo-size (r .air-sizes gas));
+              g-range = r .g-range;
+              good = r .good;
+              q-most = r .q-most;
+            };
+        density-most = r .density-most gas;
+      }
+
+  pub concentration-sizes : (gas : Gas) → Sized largestConcentration (concentrationOf (endsAt gas (sides .bag)) (endsAt gas (sides .air)) g q)
+  concentration-sizes gas = concentration-size (gas-ranges gas .ranges) (r .bag-sizes gas) (r .air-sizes gas)
 
   pub masses-sizes : DryMassSizes (massesOf volume sides g q density)
   unfolding massesOf
-  masses-sizes =
-      let b = r .bag-sizes in
-      let a = r .air-sizes in
-      record {
-        hc = gas _ _ _ (b .hc) (a .hc) (r .hc-most);
-        co = gas _ _ _ (b .co) (a .co) (r .co-most);
-        nox = gas _ _ _ (b .nox) (a .nox) (r .nox-most);
-        co2 = gas _ _ _ (b .co2) (a .co2) (r .co2-most);
-      }
+  masses-sizes gas = rw (each-at gas) (gas-mass-size 1 (gas-ranges gas) (concentration-sizes gas))
+
+-- Kh makes NOx larger, and no other gas
+corrected-size : {mass kh : Ends} (b : Bool) → Sized largestMass mass → Sized largestKh kh → Sized (cond b largestNoxMass largestMass) (cond b (noxMassOf mass kh) mass)
+corrected-size true m k = nox-mass-size (record { mass-size = m; kh-size = k })
+corrected-size false m k = m
 
 pub mass-in-sizes : {triple : Triple} {p : Part} {sides : Sides} → PartRanges triple p sides → MassSizes (massIn triple p sides)
 unfolding massIn correctedFor
-mass-in-sizes r =
-    let dry = masses-sizes (masses-ranges r) in
-    record {
-      hc = dry .hc;
-      co = dry .co;
-      nox = nox-mass-size (record { mass-size = dry .nox; kh-size = kh-size (kh-ranges r) });
-      co2 = dry .co2;
-    }
+mass-in-sizes r gas = rw (each-at gas) (corrected-size (isNOx gas) (masses-sizes (masses-ranges r) gas) (kh-size (kh-ranges r)))
+
+-- what the rate asks of each gas
+pub rate-ranges : (mass : Gases) (distance : ℕ) → MassSizes mass → 100 ≤ distance → (gas : Gas) → RateRanges (endsAt gas mass) distance
+rate-ranges mass distance m d gas = record { mass-size = wider-size (most (isNOx gas)) (m gas); distance-least = d }
+  where
+    most : (b : Bool) → cond b largestNoxMass largestMass ≤ 4 * largestMass
+    most true = omega arith
+    most false = omega arith

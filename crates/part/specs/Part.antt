@@ -1,5 +1,5 @@
 -- One part of a test (01, Bag sheet and figures): its readings, and from them and its fields the volume, and each gas's mass and rate.
-use mathlib.Core.Bool.{Bool}
+use mathlib.Core.Bool.{Bool, cond}
 use Prim.Native.Nat.{ℕ}
 use lib.IntN.{pos}
 use Rattle.arith.specs.declared.Ends.{Ends}
@@ -8,6 +8,8 @@ use Rattle.reading.specs.declared.Bag.{Bag}
 use Rattle.reading.specs.declared.Reading.{Reading}
 use Rattle.reading.specs.declared.Reading.the-variants.{Units, Unusable}
 use Rattle.reading.specs.Units.{unitsOf}
+use Rattle.reading.specs.Gas.{Gas, HC, CO, NOx, CO2, isNOx, among, messageAt}
+use Rattle.bag.specs.Sheet.{densityAt}
 use Rattle.bag.specs.declared.Part.{Part}
 use Rattle.bag.specs.declared.Triple.{Triple}
 use Rattle.bag.specs.declared.Densities.{Densities}
@@ -16,14 +18,20 @@ use Rattle.part.specs.declared.Gases.{Gases}
 use Rattle.part.specs.declared.Sides.{Sides}
 use Rattle.part.specs.declared.PartResult.{PartResult}
 
+-- the ends of a gas, and ends for each
+abbrev pub endsAt : Gas → Gases → Ends
+endsAt gas g = among gas (g .hc) (g .co) (g .nox) (g .co2)
+
+unfoldable pub each : (Gas → Ends) → Gases
+each f = record { hc = f HC; co = f CO; nox = f NOx; co2 = f CO2 }
+
 -- the ends of a reading; an unusable one is refused before, and stands as 0
 abbrev pub endsOf : Reading → Ends
 endsOf (Units ends) = ends
 endsOf Unusable = exactly (pos 0)
 
 unfoldable pub readingsOf : Bag → Gases
-readingsOf bag =
-    record { hc = endsOf (unitsOf (bag .hc)); co = endsOf (unitsOf (bag .co)); nox = endsOf (unitsOf (bag .nox)); co2 = endsOf (unitsOf (bag .co2)) }
+readingsOf bag = each (λ gas. endsOf (unitsOf (messageAt gas bag)))
 
 abbrev pub sidesOf : Part → Sides
 sidesOf p = record { bag = readingsOf (p .bag); air = readingsOf (p .air) }
@@ -47,21 +55,14 @@ unfoldable pub gasMass : Ends → Ends → Ends → Ends → ℕ → ℕ → End
 gasMass volume bag air g q density = massOf (gasVolumeOf volume (concentrationOf bag air g q)) density
 
 unfoldable pub massesOf : Ends → Sides → Ends → ℕ → Densities → Gases
-massesOf volume sides g q density =
-    record {
-      hc = gasMass volume (sides .bag .hc) (sides .air .hc) g q (density .hc);
-      co = gasMass volume (sides .bag .co) (sides .air .co) g q (density .co);
-      nox = gasMass volume (sides .bag .nox) (sides .air .nox) g q (density .nox);
-      co2 = gasMass volume (sides .bag .co2) (sides .air .co2) g q (density .co2);
-    }
+massesOf volume sides g q density = each (λ gas. gasMass volume (endsAt gas (sides .bag)) (endsAt gas (sides .air)) g q (densityAt gas density))
 
 -- "NOx: times Kh", and no other gas
 unfoldable pub correctedFor : Ends → Gases → Gases
-correctedFor kh mass = record { hc = mass .hc; co = mass .co; nox = noxMassOf (mass .nox) kh; co2 = mass .co2 }
+correctedFor kh mass = each (λ gas. cond (isNOx gas) (noxMassOf (endsAt gas mass) kh) (endsAt gas mass))
 
 unfoldable pub ratesOf : Gases → ℕ → Gases
-ratesOf mass distance =
-    record { hc = rateOf (mass .hc) distance; co = rateOf (mass .co) distance; nox = rateOf (mass .nox) distance; co2 = rateOf (mass .co2) distance }
+ratesOf mass distance = each (λ gas. rateOf (endsAt gas mass) distance)
 
 unfoldable pub massIn : Triple → Part → Sides → Gases
 massIn triple p sides =

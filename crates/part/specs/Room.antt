@@ -1,25 +1,24 @@
 -- What the stages of a part ask, from what the accepted sheet tells.
 use mathlib.Core.Path.{_≡_}
-use mathlib.Core.Bool.{true}
+use mathlib.Core.Bool.{true, cond}
 use Prim.Native.Nat.{ℕ, _≤_}
 use Rattle.arith.specs.declared.Ends.{Ends}
 use Rattle.arith.specs.Fitting.{Sized}
+use Rattle.reading.specs.Gas.{Gas, isNOx}
 use Rattle.bag.specs.declared.Part.{Part}
 use Rattle.bag.specs.declared.Triple.{Triple}
 use Rattle.bag.specs.declared.Densities.{Densities}
+use Rattle.bag.specs.Sheet.{densityAt}
 use Rattle.bag.specs.Sound.{Ranged}
 use Rattle.stage.specs.Ranges.{UpTo, ConcentrationRanges, largestReading, largestG, largestVolume, largestMass, largestNoxMass}
 use Rattle.stage.specs.Part.{dilutionGood}
 use Rattle.part.specs.declared.Gases.{Gases}
 use Rattle.part.specs.declared.Sides.{Sides}
-use Rattle.part.specs.Part.{diluted, dryEnough}
+use Rattle.part.specs.Part.{endsAt, diluted, dryEnough}
 
 -- readings in units of 1/256 ppm
-pub record ReadingSizes (g : Gases) : Type 0 where
-  pub hc : UpTo largestReading (g .hc)
-  pub co : UpTo largestReading (g .co)
-  pub nox : UpTo largestReading (g .nox)
-  pub co2 : UpTo largestReading (g .co2)
+abbrev pub ReadingSizes : Gases → Type 0
+ReadingSizes g = (gas : Gas) → UpTo largestReading (endsAt gas g)
 
 pub record TripleRanges (triple : Triple) : Type 0 where
   pub d-most : triple .d ≤ 200
@@ -38,23 +37,17 @@ pub record MassesRanges (volume : Ends) (sides : Sides) (g : Ends) (q : ℕ) (de
   pub g-range : UpTo largestG g
   pub good : dilutionGood g q ≡ true
   pub q-most : q ≤ 512000000
-  pub hc-most : density .hc ≤ 2100000
-  pub co-most : density .co ≤ 2100000
-  pub nox-most : density .nox ≤ 2100000
-  pub co2-most : density .co2 ≤ 2100000
+  pub density-most : (gas : Gas) → densityAt gas density ≤ 2100000
 
 -- masses before Kh, and after
-pub record DryMassSizes (g : Gases) : Type 0 where
-  pub hc : Sized largestMass (g .hc)
-  pub co : Sized largestMass (g .co)
-  pub nox : Sized largestMass (g .nox)
-  pub co2 : Sized largestMass (g .co2)
+abbrev pub DryMassSizes : Gases → Type 0
+DryMassSizes g = (gas : Gas) → Sized largestMass (endsAt gas g)
 
-pub record MassSizes (g : Gases) : Type 0 where
-  pub hc : Sized largestMass (g .hc)
-  pub co : Sized largestMass (g .co)
-  pub nox : Sized largestNoxMass (g .nox)
-  pub co2 : Sized largestMass (g .co2)
+abbrev pub largestMassOf : Gas → ℕ
+largestMassOf gas = cond (isNOx gas) largestNoxMass largestMass
+
+abbrev pub MassSizes : Gases → Type 0
+MassSizes g = (gas : Gas) → Sized (largestMassOf gas) (endsAt gas g)
 
 pub record PartRanges (triple : Triple) (p : Part) (sides : Sides) : Type 0 where
   pub triple-ranges : TripleRanges triple

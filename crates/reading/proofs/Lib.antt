@@ -3,3 +3,4 @@ mod Tests
 mod Scaling
 pub mod Usable
 mod Examples
+pub mod Gas

@@ -12,13 +12,13 @@ use Rattle.arith.specs.Stages.{exactly, differenceOf, scaledBy, productOf, divi
 use Rattle.arith.specs.Fitting.{Sized}
 use Rattle.arith.proofs.Parts.{zs, add-parts, sub-parts, mul-parts}
 use Rattle.arith.proofs.Machine.{lt-true}
-use Rattle.arith.proofs.Size.{wider-size, exactly-size, sum-size, scaled-size, product-size, divided-size}
-use Rattle.stage.proofs.UpTo.{wider-upTo, sum-upTo, times-upTo, product-upTo, difference-upTo-size}
+use Rattle.arith.proofs.Size.{wider-size, exactly-size, sum-size, difference-size, scaled-size, product-size, divided-size}
+use Rattle.stage.proofs.UpTo.{upTo-size, wider-upTo, sum-upTo, times-upTo, product-upTo, difference-upTo-size}
 use Rattle.stage.specs.declared.Weights.{Weights}
 use Rattle.stage.specs.Combination.{combinationOf}
 use Rattle.stage.specs.Part.{gtr, kelvinOf, volumeOf, gOf, netOf, concentrationOf, gasVolumeOf, massOf, vapourOf, dryOf, humidityGood, khOf, noxMassOf, rateOf}
 use Rattle.stage.specs.Test.{weightsOf, weightedOf}
-use Rattle.stage.specs.Ranges.{UpTo, VolumeRanges, GRanges, ConcentrationRanges, GasVolumeRanges, MassRanges, HumidityRanges, KhRanges, NoxMassRanges, FuelRanges, largestReading, largestG, largestVolume, largestConcentration, largestGasVolume, largestMass, largestKh, largestNoxMass}
+use Rattle.stage.specs.Ranges.{UpTo, VolumeRanges, GRanges, ConcentrationRanges, HumidityRanges, KhRanges, NoxMassRanges, FuelRanges, largestReading, largestSigned, largestG, largestVolume, largestConcentration, largestGasVolume, largestMass, largestKh, largestNoxMass}
 
 -- ---- operations. A divisor that is at least k
 pub divided-by-size : {q : ℕ} {a : Ends} (k : ℕ) (d : ℤ) → 0 < k → pos k ≤ℤ d → Sized (k * q) a → Sized q (dividedBy a d)
@@ -76,28 +76,36 @@ module _ {bag air g : Ends} {q : ℕ} (r : ConcentrationRanges bag air g q) wher
       }
 
   -- air (Q − G), and bag Q
-  pub from-air-upTo : UpTo (largestReading * q) (productOf air (differenceOf (exactly (pos q)) g))
-  from-air-upTo = product-upTo (r .air-reading) rest-upTo
+  pub from-air-size : Sized (largestSigned * q) (productOf air (differenceOf (exactly (pos q)) g))
+  from-air-size = product-size (r .air-size) (upTo-size rest-upTo)
 
-  pub from-bag-upTo : UpTo (largestReading * q) (scaledBy (pos q) bag)
-  from-bag-upTo = wider-upTo (times-upTo {m = q} q (omega arith) (r .bag-reading)) (omega arith)
+  pub from-bag-size : Sized (q * largestSigned) (scaledBy (pos q) bag)
+  from-bag-size = scaled-size (pos q) (omega arith) (r .bag-size)
 
-  pub net-size : Sized (largestReading * q) (netOf bag air g q)
-  net-size = difference-upTo-size from-bag-upTo from-air-upTo
+  pub net-size : Sized (q * largestSigned + largestSigned * q) (netOf bag air g q)
+  net-size = difference-size from-bag-size from-air-size
 
-  pub concentration-size : Sized largestConcentration (concentrationOf bag air g q)
+  concentration-by : (m : ℕ) → Sized (m * q) (netOf bag air g q) → Sized (16 * m) (concentrationOf bag air g q)
   unfolding concentrationOf
-  concentration-size =
-      divided-size q (omega (zs, q-positive)) (wider-size (omega arith) (scaled-size {m = 16} (pos 16) (omega arith) net-size))
+  concentration-by m h = divided-size q (omega (zs, q-positive)) (wider-size (omega arith) (scaled-size {m = 16} (pos 16) (omega arith) h))
 
--- ---- mass
-pub gas-volume-size : {volume concentration : Ends} → GasVolumeRanges volume concentration → Sized largestGasVolume (gasVolumeOf volume concentration)
+  pub signed-concentration-size : Sized (4 * largestConcentration) (concentrationOf bag air g q)
+  signed-concentration-size = concentration-by (2 * largestSigned) (wider-size (omega arith) net-size)
+
+  -- readings are not negative, so that neither adds to the other
+  pub concentration-size : UpTo largestReading bag → UpTo largestReading air → Sized largestConcentration (concentrationOf bag air g q)
+  concentration-size b a =
+      concentration-by largestReading
+      (difference-upTo-size (wider-upTo (times-upTo {m = q} q (omega arith) b) (omega arith)) (product-upTo a rest-upTo))
+
+-- ---- mass, of a concentration up to k times the largest of readings
+pub gas-volume-size : {volume concentration : Ends} (k : ℕ) → Sized largestVolume volume → Sized (k * largestConcentration) concentration → Sized (k * largestGasVolume) (gasVolumeOf volume concentration)
 unfolding gasVolumeOf
-gas-volume-size r = divided-size 4096000 (omega arith) (wider-size (omega arith) (product-size (r .volume-size) (r .concentration-size)))
+gas-volume-size k v c = divided-size 4096000 (omega arith) (wider-size (omega arith) (product-size v c))
 
-pub mass-size : {gas : Ends} {density : ℕ} → MassRanges gas density → Sized largestMass (massOf gas density)
+pub mass-size : {gas : Ends} {density : ℕ} (k : ℕ) → Sized (k * largestGasVolume) gas → density ≤ 2100000 → Sized (k * largestMass) (massOf gas density)
 unfolding massOf
-mass-size {density = density} r = divided-size 1000000 (omega arith) (wider-size (omega arith) (scaled-size (pos density) (r .density-most) (r .gas-size)))
+mass-size {density = density} k v h = divided-size 1000000 (omega arith) (wider-size (omega arith) (scaled-size (pos density) h v))
 
 -- ---- humidity
 module _ {humidity saturation barometer : ℕ} (r : HumidityRanges humidity saturation barometer) where

@@ -20,6 +20,10 @@ pub record UpTo (m : ℕ) (e : Ends) : Type 0 where
 abbrev pub largestReading : ℕ
 largestReading = 16777216
 
+-- what may enter the concentration has either sign, and up to twice a reading: 2^25. Then each stage after it gives up to four times as much
+abbrev pub largestSigned : ℕ
+largestSigned = 33554432
+
 abbrev pub largestG : ℕ
 largestG = 838860800
 
@@ -41,9 +45,9 @@ largestKh = 179536
 abbrev pub largestNoxMass : ℕ
 largestNoxMass = 514637455637
 
--- of NOx; the other gases' rates are at most ten times the largest mass
+-- of signed ends: ten times four times the largest mass. NOx's, with Kh, are at most 5,146,374,556,370
 abbrev pub largestRate : ℕ
-largestRate = 5146374556370
+largestRate = 7514321426920
 
 -- ---- what each stage asks
 pub record CombinationRanges (j : ℕ) (a : Ends) (k : ℕ) (b : Ends) (l : ℕ) (c : Ends) : Type 0 where
@@ -70,18 +74,18 @@ pub record GRanges (co2 co hc : Ends) (wc wh : ℕ) : Type 0 where
   pub wh-most : wh ≤ 20
 
 pub record ConcentrationRanges (bag air g : Ends) (q : ℕ) : Type 0 where
-  pub bag-reading : UpTo largestReading bag
-  pub air-reading : UpTo largestReading air
+  pub bag-size : Sized largestSigned bag
+  pub air-size : Sized largestSigned air
   pub g-range : UpTo largestG g
   pub good : dilutionGood g q ≡ true
   pub q-most : q ≤ 512000000
 
 pub record GasVolumeRanges (volume concentration : Ends) : Type 0 where
   pub volume-size : Sized largestVolume volume
-  pub concentration-size : Sized largestConcentration concentration
+  pub concentration-size : Sized (4 * largestConcentration) concentration
 
 pub record MassRanges (gas : Ends) (density : ℕ) : Type 0 where
-  pub gas-size : Sized largestGasVolume gas
+  pub gas-size : Sized (4 * largestGasVolume) gas
   pub density-most : density ≤ 2100000
 
 pub record HumidityRanges (humidity saturation barometer : ℕ) : Type 0 where
@@ -99,7 +103,7 @@ pub record NoxMassRanges (mass kh : Ends) : Type 0 where
   pub kh-size : Sized largestKh kh
 
 pub record RateRanges (mass : Ends) (distance : ℕ) : Type 0 where
-  pub mass-size : Sized largestNoxMass mass
+  pub mass-size : Sized (4 * largestMass) mass
   pub distance-least : 100 ≤ distance
 
 pub record WeightedRanges (weights : Weights) (first second third : Ends) : Type 0 where

@@ -45,6 +45,6 @@ result-of-spec =
     (tie.spec
     (λ c κs. c .pre .tested .class)
     weighted-gases-requires
-    (λ c κs. let t = c .before .before .pre .tested in record { hc = t .hcLimit; co = t .coLimit; nox = t .noxLimit; co2 = t .co2Limit })
+    (λ c κs. c .before .before .pre .tested .limit)
     fuel-in-requires
     returns)

@@ -1,14 +1,19 @@
 -- `emission::verdicts_of` meets its contract. Assumes nothing.
-use borrow.Author.Needs.{needs}
-use Rattle.emission.specs.Test.{verdictsOf}
+use Rattle.reading.specs.Gas.{HC, CO, NOx, CO2}
+use Rattle.emission.specs.Test.{eachVerdict, verdictsOf}
 use Rattle.emission.proofs.verdicts_of.Statement.{statement}
 use Rattle.emission.proofs.verdicts_of.Tie as tie
 
 returns : tie.Need-returns
-unfolding verdictsOf
-returns c =
-    rw (c .before .before .before .verdict-of .ensures, c .before .before .verdict-of2 .ensures, c .before .verdict-of3 .ensures, c .verdict-of4 .ensures)
+unfolding eachVerdict verdictsOf
+returns c = cc
 
 pub verdicts-of-spec : {M : Type 1} → statement M
 verdicts-of-spec =
-    tie.close (tie.spec (λ c κs. search needs) (λ c κs. search needs) (λ c κs. search needs) (λ c κs. search needs) returns)
+    tie.close
+    (tie.spec
+    (λ c κs. c .pre HC)
+    (λ c κs. c .before .pre CO)
+    (λ c κs. c .before .before .pre NOx)
+    (λ c κs. c .before .before .before .pre CO2)
+    returns)

@@ -1,14 +1,21 @@
 -- `emission::weighted_gases` meets its contract. Assumes nothing.
-use borrow.Author.Needs.{needs}
+use Rattle.reading.specs.Gas.{HC, CO, NOx, CO2}
+use Rattle.part.specs.Part.{each}
 use Rattle.emission.specs.Test.{weightedGases}
+use Rattle.emission.proofs.Ranges.{weigh-ranges}
 use Rattle.emission.proofs.weighted_gases.Statement.{statement}
 use Rattle.emission.proofs.weighted_gases.Tie as tie
 
 returns : tie.Need-returns
-unfolding weightedGases
-returns c =
-    rw (c .before .before .before .weighted .ensures, c .before .before .weighted2 .ensures, c .before .weighted3 .ensures, c .weighted4 .ensures)
+unfolding each weightedGases
+returns c = cc
 
 pub weighted-gases-spec : {M : Type 1} → statement M
 weighted-gases-spec =
-    tie.close (tie.spec (λ c κs. search needs) (λ c κs. search needs) (λ c κs. search needs) (λ c κs. search needs) returns)
+    tie.close
+    (tie.spec
+    (λ c κs. weigh-ranges (c .pre) HC)
+    (λ c κs. weigh-ranges (c .before .pre) CO)
+    (λ c κs. weigh-ranges (c .before .before .pre) NOx)
+    (λ c κs. weigh-ranges (c .before .before .before .pre) CO2)
+    returns)

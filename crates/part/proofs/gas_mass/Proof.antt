@@ -1,6 +1,6 @@
 -- `part::gas_mass` meets its contract: each stage's size meets what the next asks. Assumes nothing.
 use borrow.Author.Needs.{needs}
-use Rattle.stage.proofs.Sizes.{concentration-size, gas-volume-size}
+use Rattle.stage.proofs.Sizes.{signed-concentration-size, gas-volume-size}
 use Rattle.part.specs.Part.{gasMass}
 use Rattle.part.proofs.gas_mass.Statement.{statement}
 use Rattle.part.proofs.gas_mass.Tie as tie
@@ -8,14 +8,14 @@ use Rattle.part.proofs.gas_mass.Tie as tie
 gas-volume-requires : tie.Need-gas-volume-requires
 gas-volume-requires c κs =
     let s = c .before in
-    rw (c .concentration .ensures) (record { volume-size = s .pre .volume-size; concentration-size = concentration-size (s .pre .ranges) })
+    rw (c .concentration .ensures) (record { volume-size = s .pre .volume-size; concentration-size = signed-concentration-size (s .pre .ranges) })
 
 mass-requires : tie.Need-mass-requires
 mass-requires c κs =
     let s = c .before .before in
     rw (c .gas-volume .ensures, c .before .concentration .ensures)
     (record {
-      gas-size = gas-volume-size (record { volume-size = s .pre .volume-size; concentration-size = concentration-size (s .pre .ranges) });
+      gas-size = gas-volume-size 4 (s .pre .volume-size) (signed-concentration-size (s .pre .ranges));
       density-most = s .pre .density-most;
     })
 

@@ -9,7 +9,7 @@ use Rattle.arith.proofs.Machine.{handed}
 use Rattle.arith.proofs.Size.{exactly-size, scaled-fits, product-fits, difference-fits}
 use Rattle.stage.specs.Part.{netOf, concentrationOf}
 use Rattle.stage.proofs.UpTo.{upTo-size}
-use Rattle.stage.proofs.Sizes.{q-positive, rest-upTo, from-air-upTo, from-bag-upTo, net-size}
+use Rattle.stage.proofs.Sizes.{q-positive, rest-upTo, from-air-size, from-bag-size, net-size}
 use Rattle.stage.proofs.concentration.Statement.{statement}
 use Rattle.stage.proofs.concentration.Tie as tie
 
@@ -37,18 +37,18 @@ difference-requires c κs =
 product-requires : tie.Need-product-requires
 product-requires c κs =
     let r = c .before .before .before .pre in
-    rw (rest-is c) (product-fits (omega (arith, r .q-most)) (upTo-size (r .air-reading)) (upTo-size (rest-upTo r)))
+    rw (rest-is c) (product-fits (omega (arith, r .q-most)) (r .air-size) (upTo-size (rest-upTo r)))
 
 scaled-requires : tie.Need-scaled-requires
 scaled-requires c κs =
     let r = c .before .before .before .before .pre in
-    rw (q-is (c .before .before .before)) (scaled-fits _ (omega arith) (r .q-most) (upTo-size (r .bag-reading)))
+    rw (q-is (c .before .before .before)) (scaled-fits _ (omega arith) (r .q-most) (r .bag-size))
 
 difference-requires-2 : tie.Need-difference-requires-2
 difference-requires-2 c κs =
     let r = c .before .before .before .before .before .pre in
     simp (c .scaled .ensures, q-is (c .before .before .before .before), from-air-is (c .before))
-    (difference-fits (omega (arith, r .q-most)) (upTo-size (from-bag-upTo r)) (upTo-size (from-air-upTo r)))
+    (difference-fits (omega (arith, r .q-most)) (from-bag-size r) (from-air-size r))
 
 scaled-requires-2 : tie.Need-scaled-requires-2
 scaled-requires-2 c κs =

@@ -1,0 +1,14 @@
+-- `emission::fuel_in` meets its contract. Assumes nothing.
+use borrow.Author.Needs.{needs}
+use Rattle.reading.specs.Gas.{HC, CO, CO2}
+use Rattle.emission.proofs.fuel_in.Statement.{statement}
+use Rattle.emission.proofs.fuel_in.Tie as tie
+
+fuel-requires : tie.Need-fuel-requires
+fuel-requires c κs =
+    let f = c .pre .0 in
+    let w = c .pre .1 in
+    record { k-most = f .k; f1-most = f .hc; f2-most = f .co; f3-most = f .co2; light = f .light; heavy = f .heavy; hc-size = w HC; co-size = w CO; co2-size = w CO2 }
+
+pub fuel-in-spec : {M : Type 1} → statement M
+fuel-in-spec = tie.close (tie.spec fuel-requires (λ c. search needs))
