@@ -1,6 +1,6 @@
 -- What an accepted bag sheet tells of its numbers and readings, which the stages above require. Assumes nothing.
-use mathlib.Core.Path.{_≡_, refl}
-use mathlib.Core.Bool.{true, false≢true}
+use mathlib.Core.Path.{_≡_}
+use mathlib.Core.Bool.{true}
 use mathlib.Core.List.{List, [], _∷_, _++_}
 use Prim.Native.Nat.{ℕ, _*_}
 use lib.Dec.{eqb, leb}
@@ -10,15 +10,12 @@ use Rattle.refusal.specs.Judging.{Check}
 use Rattle.refusal.specs.Ranges.{within}
 use Rattle.refusal.proofs.Judging.{AllHold, judged-holds}
 use Rattle.refusal.proofs.Ranges.{both, range, rangeℤ}
-use Rattle.reading.specs.declared.Message.{Message}
-use Rattle.reading.specs.declared.Reading.{Reading}
-use Rattle.reading.specs.declared.Reading.the-variants.{Units, Unusable}
-use Rattle.reading.specs.Units.{unitsOf}
-use Rattle.reading.specs.Gas.{Gas, HC, CO, NOx, CO2, numberOf, along, messageAt}
+use Rattle.reading.specs.Gas.{Gas, HC, CO, NOx, CO2, along}
+use Rattle.reading.proofs.Gas.{by-gas}
 use Rattle.bag.specs.declared.Part.{Part}
 use Rattle.bag.specs.declared.BagSheet.{BagSheet}
-use Rattle.bag.specs.Sheet.{densityAt, limitAt, partsOf, classHolds, value, testChecks, valueChecks, usable, gasChecks, readingChecks, ofThird, sheetChecks, judgeSheet}
-use Rattle.bag.specs.Sound.{Ranged, Read, SoundPart, Tested, Sound}
+use Rattle.bag.specs.Sheet.{densityAt, limitAt, partsOf, classHolds, value, testChecks, valueChecks, ofThird, sheetChecks, judgeSheet}
+use Rattle.bag.specs.Sound.{Ranged, Tested, Sound}
 
 -- where one list after another holds, both do
 pub apart : (cs ds : List Check) → AllHold (cs ++ ds) → AllHold cs × AllHold ds
@@ -33,13 +30,7 @@ along-holds f h =
     let co = apart (f HC) (f CO ++ (f NOx ++ f CO2)) h in
     let nox = apart (f CO) (f NOx ++ f CO2) (co .1) in
     let co2 = apart (f NOx) (f CO2) (nox .1) in
-    λ gas. go (co .0) (nox .0) (co2 .0) (co2 .1) gas
-  where
-    go : AllHold (f HC) → AllHold (f CO) → AllHold (f NOx) → AllHold (f CO2) → (gas : Gas) → AllHold (f gas)
-    go hc co nox co2 HC = hc
-    go hc co nox co2 CO = co
-    go hc co nox co2 NOx = nox
-    go hc co nox co2 CO2 = co2
+    by-gas (λ gas. AllHold (f gas)) (co .0) (nox .0) (co2 .0) (co2 .1)
 
 ranged : (part : ℕ) (p : Part) → AllHold (valueChecks part p) → Ranged p
 unfolding valueChecks
@@ -80,24 +71,6 @@ tested s e h =
       limit = λ gas. leb-true (limitAt gas (s .limits)) _ (limits gas .0);
     }
 
--- a usable message has its ends
-read : (message : Message) → usable (unitsOf message) ≡ true → Read message
-read message h = go (unitsOf message) refl h
-  where
-    go : (r : Reading) → unitsOf message ≡ r → usable r ≡ true → Read message
-    go (Units ends) e h = record { ends = ends; units = e }
-    go Unusable e h = absurd (false≢true h)
-
-sound-part : (part : ℕ) (p : Part) → AllHold (valueChecks part p) → AllHold (readingChecks part p) → SoundPart p
-unfolding readingChecks
-sound-part part p values h =
-    let readings = along-holds (λ gas. gasChecks part (numberOf gas) (messageAt gas (p .bag)) (messageAt gas (p .air))) h in
-    record {
-      ranged = ranged part p values;
-      bag = λ gas. read (messageAt gas (p .bag)) (readings gas .0);
-      air = λ gas. read (messageAt gas (p .air)) (readings gas .1 .0);
-    }
-
 -- class 3 has the checks of the third part
 pub third-holds : (class : ℕ) (cs : List Check) → AllHold (ofThird class cs) → class ≡ 3 → AllHold cs
 third-holds class cs h e = rw (eq-eqb class 3 e) at h
@@ -106,21 +79,15 @@ pub accepted-sound : (s : BagSheet) → judgeSheet s ≡ Accepted → Sound s
 unfolding sheetChecks
 accepted-sound s e =
     let h = judged-holds (sheetChecks s) e in
-    let readings-3 = ofThird (s .class) (readingChecks 3 (s .third)) in
-    let readings-2 = readingChecks 2 (s .second) ++ readings-3 in
-    let readings-1 = readingChecks 1 (s .first) ++ readings-2 in
-    let values-3 = ofThird (s .class) (valueChecks 3 (s .third)) ++ readings-1 in
+    let values-3 = ofThird (s .class) (valueChecks 3 (s .third)) in
     let values-2 = valueChecks 2 (s .second) ++ values-3 in
     let values-1 = valueChecks 1 (s .first) ++ values-2 in
     let t = apart (testChecks (s .triple) (s .fuel) (s .limits)) values-1 (h .1) in
     let v1 = apart (valueChecks 1 (s .first)) values-2 (t .1) in
     let v2 = apart (valueChecks 2 (s .second)) values-3 (v1 .1) in
-    let v3 = apart (ofThird (s .class) (valueChecks 3 (s .third))) readings-1 (v2 .1) in
-    let r1 = apart (readingChecks 1 (s .first)) readings-2 (v3 .1) in
-    let r2 = apart (readingChecks 2 (s .second)) readings-3 (r1 .1) in
     record {
       tested = tested s (h .0) (t .0);
-      first = sound-part 1 (s .first) (v1 .0) (r1 .0);
-      second = sound-part 2 (s .second) (v2 .0) (r2 .0);
-      third = λ c. sound-part 3 (s .third) (third-holds (s .class) _ (v3 .0) c) (third-holds (s .class) _ (r2 .1) c);
+      first = ranged 1 (s .first) (v1 .0);
+      second = ranged 2 (s .second) (v2 .0);
+      third = λ c. ranged 3 (s .third) (third-holds (s .class) _ (v2 .1) c);
     }

@@ -92,16 +92,18 @@ readingChecks part p = along (λ gas. gasChecks part (numberOf gas) (messageAt g
 abbrev pub ofThird : ℕ → List Check → List Check
 ofThird class checks = cond (eqb class 3) checks []
 
+-- 10 and 11
 unfoldable pub sheetChecks : BagSheet → List Check
 sheetChecks s =
     classCheck (s .class) (s .parts)
     ∷ (testChecks (s .triple) (s .fuel) (s .limits)
     ++ (valueChecks 1 (s .first)
     ++ (valueChecks 2 (s .second)
-    ++ (ofThird (s .class) (valueChecks 3 (s .third))
-    ++ (readingChecks 1 (s .first)
-    ++ (readingChecks 2 (s .second)
-    ++ ofThird (s .class) (readingChecks 3 (s .third))))))))
+    ++ ofThird (s .class) (valueChecks 3 (s .third)))))
+
+-- 12
+unfoldable pub messageChecks : BagSheet → List Check
+messageChecks s = readingChecks 1 (s .first) ++ (readingChecks 2 (s .second) ++ ofThird (s .class) (readingChecks 3 (s .third)))
 
 abbrev pub judgeSheet : BagSheet → Judged
 judgeSheet s = judgedBy (sheetChecks s)

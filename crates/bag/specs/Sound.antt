@@ -3,11 +3,7 @@ use mathlib.Core.Path.{_≡_}
 use Prim.Native.Nat.{_*_, _≤_}
 use lib.IntN.{pos, negsuc}
 use lib.Signed.{_≤ℤ_}
-use Rattle.arith.specs.declared.Ends.{Ends}
-use Rattle.reading.specs.declared.Message.{Message}
-use Rattle.reading.specs.declared.Reading.the-variants.{Units}
-use Rattle.reading.specs.Units.{unitsOf}
-use Rattle.reading.specs.Gas.{Gas, messageAt}
+use Rattle.reading.specs.Gas.{Gas}
 use Rattle.bag.specs.declared.Part.{Part}
 use Rattle.bag.specs.declared.BagSheet.{BagSheet}
 use Rattle.bag.specs.Sheet.{partsOf, densityAt, limitAt}
@@ -25,16 +21,6 @@ pub record Ranged (p : Part) : Type 0 where
   pub distance : (100 ≤ p .distance) × (p .distance ≤ 100000)
   pub density : (gas : Gas) → (1 ≤ densityAt gas (p .density)) × (densityAt gas (p .density) ≤ 2100000)
 
--- a message with its ends in units
-pub record Read (message : Message) : Type 0 where
-  pub ends : Ends
-  pub units : unitsOf message ≡ Units ends
-
-pub record SoundPart (p : Part) : Type 0 where
-  pub ranged : Ranged p
-  pub bag : (gas : Gas) → Read (messageAt gas (p .bag))
-  pub air : (gas : Gas) → Read (messageAt gas (p .air))
-
 -- the class, and fields 10 to 12
 pub record Tested (s : BagSheet) : Type 0 where
   pub class : (1 ≤ s .class) × (s .class ≤ 3)
@@ -51,6 +37,6 @@ pub record Tested (s : BagSheet) : Type 0 where
 
 pub record Sound (s : BagSheet) : Type 0 where
   pub tested : Tested s
-  pub first : SoundPart (s .first)
-  pub second : SoundPart (s .second)
-  pub third : s .class ≡ 3 → SoundPart (s .third)
+  pub first : Ranged (s .first)
+  pub second : Ranged (s .second)
+  pub third : s .class ≡ 3 → Ranged (s .third)

@@ -1,17 +1,15 @@
-// The bag sheet of a Type I test (01, Bag sheet and figures), judged: refusals 10, 11 and 12. Each function below takes what the checks after
+// The bag sheet of a Type I test (01, Bag sheet and figures), judged: refusals 10 and 11. Each function below takes what the checks after
 // its own say, so that the checks stand last to first.
 use reading::Bag;
-use reading::Message;
 use refusal::Judged;
 use refusal::Refusal;
 ghost use mathlib.Core.Path.{_≡_};
 ghost use lib.Dec.{leb};
 ghost use lib.IntN.{pos, negsuc};
-ghost use Rattle.refusal.specs.declared.Refusal.the-variants.{Value, Reading};
+ghost use Rattle.refusal.specs.declared.Refusal.the-variants.{Value};
 ghost use Rattle.refusal.specs.Judging.{checked, checkedAll};
 ghost use Rattle.refusal.specs.Ranges.{within, withinℤ};
-ghost use Rattle.reading.specs.Units.{unitsOf};
-ghost use Rattle.bag.specs.Sheet.{partsOf, classHolds, testChecks, pumped, valueChecks, usable, gasChecks, readingChecks, ofThird, judgeSheet};
+ghost use Rattle.bag.specs.Sheet.{partsOf, classHolds, testChecks, pumped, valueChecks, ofThird, judgeSheet};
 
 // Field 9: milligrams per cubic metre.
 #[repr(C)]
@@ -179,69 +177,11 @@ fn third_values(class: u32, third: Part, rest: Judged) -> Judged
     }
 }
 
-// A message is usable where it has units.
-fn usable(message: Message) -> bool
-    ensures { λ r. ⌜ r ≡ usable (unitsOf message) ⌝ }
-{
-    match reading::convert(message) {
-        reading::Reading::Units(_) => true,
-        reading::Reading::Unusable => false,
-    }
-}
-
-fn gas_reading(part: u32, gas: u32, side: u32, message: Message, rest: Judged) -> Judged
-    ensures { λ r. ⌜ r ≡ checked (usable (unitsOf message)) (Reading part gas side) rest ⌝ }
-{
-    refusal::check(usable(message), Refusal::Reading { part, gas, side }, rest)
-}
-
-// The bag before the air.
-fn gas_readings(part: u32, gas: u32, bag: Message, air: Message, rest: Judged) -> Judged
-    ensures { λ r. ⌜ r ≡ checkedAll (gasChecks part gas bag air) rest ⌝ }
-{
-    let of_air = gas_reading(part, gas, 2, air, rest);
-    gas_reading(part, gas, 1, bag, of_air)
-}
-
-// The eight readings of a part.
-fn part_readings(part: u32, p: Part, rest: Judged) -> Judged
-    ensures { λ r. ⌜ r ≡ checkedAll (readingChecks part p) rest ⌝ }
-{
-    let bag = p.bag;
-    let air = p.air;
-    let bag_hc = bag.hc;
-    let air_hc = air.hc;
-    let bag_co = bag.co;
-    let air_co = air.co;
-    let bag_nox = bag.nox;
-    let air_nox = air.nox;
-    let bag_co2 = bag.co2;
-    let air_co2 = air.co2;
-    let co2 = gas_readings(part, 4, bag_co2, air_co2, rest);
-    let nox = gas_readings(part, 3, bag_nox, air_nox, co2);
-    let co = gas_readings(part, 2, bag_co, air_co, nox);
-    gas_readings(part, 1, bag_hc, air_hc, co)
-}
-
-// As `third_values`.
-fn third_readings(class: u32, third: Part, rest: Judged) -> Judged
-    ensures { λ r. ⌜ r ≡ checkedAll (ofThird class (readingChecks 3 third)) rest ⌝ }
-{
-    if class == 3 {
-        part_readings(3, third, rest)
-    } else {
-        rest
-    }
-}
-
-// The first refusal of a sheet, of 10 to 12.
+// The first refusal of a sheet, of 10 and 11.
 pub fn judge(sheet: BagSheet) -> Judged
     ensures { λ r. ⌜ r ≡ judgeSheet sheet ⌝ }
 {
-    let readings_3 = third_readings(sheet.class, sheet.third, Judged::Accepted);
-    let readings_2 = part_readings(2, sheet.second, readings_3);
-    let readings_1 = part_readings(1, sheet.first, readings_2);
-    let values_3 = third_values(sheet.class, sheet.third, readings_1);
+    let values_3 = third_values(sheet.class, sheet.third, Judged::Accepted);
     let values_2 = part_values(2, sheet.second, values_3);
     let values_1 = part_values(1, sheet.first, values_2);
     let values_0 = test_values(sheet.triple, sheet.fuel, sheet.limits, values_1);

@@ -7,16 +7,16 @@ use Rattle.bag.specs.declared.Part.{Part}
 use Rattle.bag.specs.declared.Triple.{Triple}
 use Rattle.bag.specs.Sheet.{densityAt}
 use Rattle.stage.specs.Part.{qOf, khOf, noxMassOf}
-use Rattle.part.specs.Part.{endsAt, readingsOf, sidesOf, gIn, volumeIn, gasMass, massesOf, correctedFor, massIn}
+use Rattle.part.specs.declared.Sides.{Sides}
+use Rattle.part.specs.Part.{endsAt, gIn, volumeIn, gasMass, massesOf, correctedFor, massIn}
 use Rattle.part.proofs.Each.{each-at}
 
-abbrev pub dryMassIn : Gas → Triple → Part → Ends
-dryMassIn gas t p =
-    gasMass (volumeIn p) (endsAt gas (readingsOf (p .bag))) (endsAt gas (readingsOf (p .air))) (gIn t (readingsOf (p .bag))) (qOf (t .d)) (densityAt gas (p .density))
+abbrev pub dryMassIn : Gas → Triple → Part → Sides → Ends
+dryMassIn gas t p sides = gasMass (volumeIn p) (endsAt gas (sides .bag)) (endsAt gas (sides .air)) (gIn t (sides .bag)) (qOf (t .d)) (densityAt gas (p .density))
 
 abbrev pub khIn : Part → Ends
 khIn p = khOf (p .humidity) (p .saturation) (p .barometer)
 
-pub mass-at : (gas : Gas) (t : Triple) (p : Part) → endsAt gas (massIn t p (sidesOf p)) ≡ cond (isNOx gas) (noxMassOf (dryMassIn gas t p) (khIn p)) (dryMassIn gas t p)
+pub mass-at : (gas : Gas) (t : Triple) (p : Part) (sides : Sides) → endsAt gas (massIn t p sides) ≡ cond (isNOx gas) (noxMassOf (dryMassIn gas t p sides) (khIn p)) (dryMassIn gas t p sides)
 unfolding massIn massesOf correctedFor
-mass-at gas t p = rw (each-at gas, each-at gas)
+mass-at gas t p sides = rw (each-at gas, each-at gas)

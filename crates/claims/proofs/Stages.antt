@@ -11,10 +11,9 @@ use Rattle.arith.proofs.Parts.{up, zs, add-parts, sub-parts, mul-parts}
 use Rattle.arith.proofs.Ring.{one-mul, mul-one, mul-pos, products}
 use Rattle.arith.proofs.Enclosure.{exactly-holds, sum-holds, difference-holds, scaled-holds, product-holds, divided-holds, same-value}
 use Rattle.reading.specs.declared.Message.{Message}
-use Rattle.reading.specs.declared.Reading.{Reading}
-use Rattle.reading.specs.declared.Reading.the-variants.{Units, Unusable}
+use Rattle.reading.specs.declared.Reading.the-variants.{Units}
 use Rattle.reading.specs.Units.{unitsOf}
-use Rattle.reading.proofs.Usable.{Usable, usable}
+use Rattle.reading.proofs.Usable.{usable}
 use Rattle.stage.specs.declared.Weights.{Weights}
 use Rattle.stage.specs.Combination.{combinationOf}
 use Rattle.stage.specs.Part.{gtr, kelvinOf, volumeOf, concentrationOf, gasVolumeOf, massOf, vapourOf, dryOf, khOf, noxMassOf, rateOf}
@@ -22,20 +21,13 @@ use Rattle.stage.specs.Test.{weightedOf, fuelOf}
 use Rattle.stage.specs.Ranges.{VolumeRanges, KhRanges}
 use Rattle.stage.proofs.Sizes.{kelvin-least, vapour-most, divisor-least}
 use Rattle.bag.specs.declared.Part.{Part}
-use Rattle.part.specs.Part.{endsOf, volumeIn}
+use Rattle.part.specs.Part.{volumeIn}
 use Rattle.claims.specs.Exact.{count, decimal, units, exactVolume, exactH, exactKh}
 
--- ---- readings: one number each, usable or not
-pub reading-number : (message : Message) → Usable (endsOf (unitsOf message))
-reading-number message = go (unitsOf message) refl
-  where
-    go : (r : Reading) → unitsOf message ≡ r → Usable (endsOf r)
-    go (Units ends) e = usable message e
-    go Unusable e = record { units = 0; limit = omega arith; exact = refl }
-
-pub reading-holds : (message : Message) → Between (endsOf (unitsOf message)) (units message)
+-- ---- readings: one number each
+pub reading-holds : (message : Message) {ends : Ends} → unitsOf message ≡ Units ends → Between ends (units message)
 unfolding exactly
-reading-holds message = let u = reading-number message in rw (u .exact) (exactly-holds (pos (u .units)))
+reading-holds message {ends} h = let u = usable message h in rw (h, u .exact) (exactly-holds (pos (u .units)))
 
 -- ---- fractions of naturals
 abbrev ratio : ℕ → ℕ → Fraction

@@ -20,15 +20,23 @@ use Rattle.trace.specs.Judging.{countable, secondGood, judgeTrace}
 use Rattle.vehicle.specs.Sheet.{engineChecks, gearGood, gearRefusal, mild, judgeVehicle}
 use Rattle.shift.specs.Speeds.{shiftOf}
 use Rattle.gear.specs.Own.{ownAt}
-use Rattle.gear.specs.Sheet.{judgeSheet, gearAnswer}
+use Rattle.gear.specs.Sheet as gears
+use Rattle.gear.specs.Sheet.{gearAnswer}
 use Rattle.bag.specs.declared.BagSheet.{BagSheet}
-use Rattle.bag.specs.Sheet.{sheetChecks}
+use Rattle.bag.specs.Sheet.{messageChecks, readingChecks, ofThird, judgeSheet}
+use Rattle.bag.specs.declared.Part.{Part}
+use Rattle.part.specs.declared.Sides.{Sides}
+use Rattle.part.specs.declared.PartRead.{PartRead}
+use Rattle.part.specs.declared.PartRead.the-variants as partRead
+use Rattle.part.specs.Read.{readPart, judgedPart}
+use Rattle.part.proofs.Read.{part-judged}
+use Rattle.emission.specs.declared.Read.{Read}
+use Rattle.emission.specs.declared.Read.the-variants as read
 use Rattle.emission.specs.declared.Answer.{Answer}
 use Rattle.emission.specs.declared.Answer.the-variants.{Result}
 use Rattle.emission.specs.declared.Answer.the-variants as answer
-use Rattle.emission.specs.declared.TestResult.{TestResult}
-use Rattle.emission.specs.Test.{readingsIn, lateChecks, partsIn, resultOf, handUp, testAnswer}
-use Rattle.claims.specs.Table.{FirstFails, check, each, gearChecks, emissionChecks}
+use Rattle.emission.specs.Test.{nothing, readThird, onPart, readIn, onRead, judgeLate, handUp, readAnswer, testAnswer}
+use Rattle.claims.specs.Table.{FirstFails, check, each, gearChecks, lateOn, emissionChecks}
 
 -- ---- a list of checks
 same-refusal : {a b : Refusal} → Refused a ≡ Refused b → a ≡ b
@@ -73,7 +81,7 @@ flat : (t e f g m r c : List Check) → andThen (andThen (judgedBy t) (andThen (
 flat t e f g m r c = simp (then-list, append-assoc)
 
 pub gear-table : (trace : List ℕ) (v : VehicleSheet) (room start : ℕ) → gearAnswer trace v room start ≡ judgedBy (gearChecks trace v room start)
-unfolding gearAnswer judgeSheet judgeTrace judgeVehicle
+unfolding gearAnswer gears.judgeSheet judgeTrace judgeVehicle
 gear-table trace v room start =
     let n = countOf trace in
     let heads = check (headed trace) Header ∷ check (countable n) Count ∷ check (eqb (length trace) (8 + 4 * n)) Length ∷ [] in
@@ -90,17 +98,49 @@ gear-table trace v room start =
     (λ i. andThen (andThen (t i) (andThen (andThen (judgedBy (engineChecks v)) (andThen (f i) (andThen (g i) (judgedBy last)))) (judgedBy space))) (c i))
     ∙ flat (heads ++ seconds) (engineChecks v) ratios falls last space close
 
--- ---- the emission sheet's answer is the table's, 10 to 14, and the full result where none of them fails
-hand-then : (a b : Judged) (next : Answer) → handUp a (handUp b next) ≡ handUp (andThen a b) next
-hand-then Accepted b next = refl
-hand-then (Refused refusal) b next = refl
+-- ---- the emission sheet's answer is the table's, 10 to 14
+abbrev judgedRead : Read → Judged
+judgedRead (read.Units readings) = Accepted
+judgedRead (read.Refused refusal) = Refused refusal
 
-pub emission-table : (s : BagSheet) → testAnswer s ≡ handUp (judgedBy (emissionChecks s)) (Result (resultOf s (partsIn s (readingsIn s))))
+abbrev judgedAnswer : Answer → Judged
+judgedAnswer (Result result) = Accepted
+judgedAnswer (answer.Refused refusal) = Refused refusal
+
+on-part : (p : PartRead) (next : Sides → Read) (rest : Judged) → ((sides : Sides) → judgedRead (next sides) ≡ rest) → judgedRead (onPart p next) ≡ andThen (judgedPart p) rest
+on-part (partRead.Units sides) next rest h = h sides
+on-part (partRead.Refused refusal) next rest h = refl
+
+third-judged : (class : ℕ) (third : Part) → judgedPart (readThird class third) ≡ judgedBy (ofThird class (readingChecks 3 third))
+unfolding readThird
+third-judged class third = go (eqb class 3)
+  where
+    go : (b : Bool) → judgedPart (cond b (readPart 3 third) (partRead.Units (record { bag = nothing; air = nothing }))) ≡ judgedBy (cond b (readingChecks 3 third) [])
+    go true = part-judged 3 third
+    go false = refl
+
+then-nothing : (j : Judged) → andThen j Accepted ≡ j
+then-nothing Accepted = refl
+then-nothing (Refused refusal) = refl
+
+read-judged : (s : BagSheet) → judgedRead (readIn s) ≡ judgedBy (messageChecks s)
+unfolding readIn messageChecks
+read-judged s =
+    on-part (readPart 1 (s .first)) _ _ (λ first. on-part (readPart 2 (s .second)) _ _ (λ second. on-part (readThird (s .class) (s .third)) _ _ (λ third. refl)))
+    ∙ simp (then-nothing, part-judged, third-judged, then-list)
+
+hand-judged : (j : Judged) (next : Answer) → judgedAnswer (handUp j next) ≡ andThen j (judgedAnswer next)
+hand-judged Accepted next = refl
+hand-judged (Refused refusal) next = refl
+
+late-judged : (s : BagSheet) (x : Read) → judgedAnswer (onRead x (readAnswer s)) ≡ andThen (judgedRead x) (judgedBy (lateOn s x))
+unfolding readAnswer
+late-judged s (read.Units readings) = hand-judged (judgeLate s readings) _ ∙ then-nothing (judgeLate s readings)
+late-judged s (read.Refused refusal) = refl
+
+pub emission-table : (s : BagSheet) → judgedAnswer (testAnswer s) ≡ judgedBy (emissionChecks s)
 unfolding testAnswer
-emission-table s =
-    let result = Result (resultOf s (partsIn s (readingsIn s))) in
-    hand-then (judgedBy (sheetChecks s)) (judgedBy (lateChecks s (readingsIn s))) result
-    ∙ ap (λ (j : Judged). handUp j result) (then-list (sheetChecks s) (lateChecks s (readingsIn s)))
+emission-table s = hand-judged (judgeSheet s) _ ∙ simp (late-judged, read-judged, then-list)
 
 -- ---- so, for each sheet: refused with a number and place exactly where that row's condition holds and none before it does
 module _ (trace : List ℕ) (v : VehicleSheet) (room start : ℕ) {refusal : Refusal} where
@@ -109,15 +149,12 @@ module _ (trace : List ℕ) (v : VehicleSheet) (room start : ℕ) {refusal : Ref
       let table = gear-table trace v room start in
       (λ e. refused-first (gearChecks trace v room start) (sym table ∙ e), λ f. table ∙ first-refused (gearChecks trace v room start) f)
 
-handed : (j : Judged) (result : TestResult) {refusal : Refusal} → handUp j (Result result) ≡ answer.Refused refusal → j ≡ Refused refusal
-handed Accepted result e = absurd (let z : _≡_ {A = ℕ} 0 1 = cc in let f : ⊥ = omega arith in f)
-handed (Refused refusal) result e = cc
+refused-answer : (a : Answer) {refusal : Refusal} → judgedAnswer a ≡ Refused refusal → a ≡ answer.Refused refusal
+refused-answer (Result result) e = absurd (let z : _≡_ {A = ℕ} 0 1 = cc in let f : ⊥ = omega arith in f)
+refused-answer (answer.Refused refusal) e = cc
 
 module _ (s : BagSheet) {refusal : Refusal} where
   pub emission-refused-exactly : (testAnswer s ≡ answer.Refused refusal → FirstFails (emissionChecks s) refusal) × (FirstFails (emissionChecks s) refusal → testAnswer s ≡ answer.Refused refusal)
   emission-refused-exactly =
-      let result = resultOf s (partsIn s (readingsIn s)) in
-      let table = emission-table s in (
-        λ e. refused-first (emissionChecks s) (handed (judgedBy (emissionChecks s)) result (sym table ∙ e)),
-        λ f. table ∙ ap (λ (j : Judged). handUp j (Result result)) (first-refused (emissionChecks s) f),
-      )
+      let table = emission-table s in
+      (λ e. refused-first (emissionChecks s) (sym table ∙ ap judgedAnswer e), λ f. refused-answer (testAnswer s) (table ∙ first-refused (emissionChecks s) f))

@@ -102,8 +102,8 @@ use Rattle.stage.proofs.fuel.Reads as stage-fuel
 use Rattle.stage.proofs.fuel.Kinds as stage-fuel-kinds
 use Rattle.stage.proofs.verdict_of.Reads as stage-verdict-of
 use Rattle.stage.proofs.verdict_of.Kinds as stage-verdict-of-kinds
-use Rattle.part.proofs.sides_of.Reads as part-sides-of
-use Rattle.part.proofs.sides_of.Kinds as part-sides-of-kinds
+use Rattle.part.proofs.read_part.Reads as part-read-part
+use Rattle.part.proofs.read_part.Kinds as part-read-part-kinds
 use Rattle.part.proofs.g_in.Reads as part-g-in
 use Rattle.part.proofs.g_in.Kinds as part-g-in-kinds
 use Rattle.part.proofs.is_diluted.Reads as part-is-diluted
@@ -286,8 +286,8 @@ pub stage-verdict-of-unique : Coincide 0 stage-verdict-of-kinds.ps stage-verdict
 stage-verdict-of-unique κs a x y ws vs pre h h′ = (h ∙ sym h′, refl)
 
 -- ---- part
-pub part-sides-of-unique : Coincide 0 part-sides-of-kinds.ps part-sides-of-kinds.r part-sides-of.Pre part-sides-of.Post
-part-sides-of-unique κs a x y ws vs pre h h′ = (h ∙ sym h′, refl)
+pub part-read-part-unique : Coincide 0 part-read-part-kinds.ps part-read-part-kinds.r part-read-part.Pre part-read-part.Post
+part-read-part-unique κs a x y ws vs pre h h′ = (h ∙ sym h′, refl)
 
 pub part-g-in-unique : Coincide 0 part-g-in-kinds.ps part-g-in-kinds.r part-g-in.Pre part-g-in.Post
 part-g-in-unique κs a x y ws vs pre h h′ = (h ∙ sym h′, refl)

@@ -16,9 +16,10 @@ use Rattle.bag.specs.declared.BagSheet.{BagSheet}
 use Rattle.bag.specs.Sheet.{limitAt}
 use Rattle.stage.specs.declared.Verdict.the-variants.{Pass, Fail, Undecided}
 use Rattle.stage.specs.Test.{verdictOf}
+use Rattle.emission.specs.declared.Readings.{Readings}
 use Rattle.emission.specs.declared.TestResult.{TestResult}
 use Rattle.emission.specs.declared.Answer.the-variants.{Result}
-use Rattle.emission.specs.Test.{readingsIn, partsIn, verdictsOf, resultOf, testAnswer}
+use Rattle.emission.specs.Test.{partsIn, verdictsOf, resultOf, testAnswer}
 use Rattle.emission.proofs.Each.{verdict-at}
 use Rattle.claims.specs.Statements.{Justified, JustifiedIn}
 use Rattle.claims.proofs.Accepted.{accepted-result}
@@ -61,10 +62,10 @@ module _ {e : Ends} {q : Fraction} (h : Between e q) (limit : ℕ) where
           }
 
 -- the verdicts of a result are those of its weighted ends
-verdicts-in : (s : BagSheet) (r : TestResult) → r ≡ resultOf s (partsIn s (readingsIn s)) → r .verdicts ≡ verdictsOf (r .weighted) (s .limits)
+verdicts-in : (s : BagSheet) (r : TestResult) (readings : Readings) → r ≡ resultOf s (partsIn s readings) → r .verdicts ≡ verdictsOf (r .weighted) (s .limits)
 unfolding resultOf
-verdicts-in s r e = rw e
+verdicts-in s r readings e = rw e
 
 pub verdicts : (s : BagSheet) (r : TestResult) → testAnswer s ≡ Result r → (gas : Gas) → JustifiedIn s r gas
 unfolding verdictsOf
-verdicts s r e gas = rw (verdicts-in s r (accepted-result e .result), verdict-at gas) (justified (contained s r e .weighted gas) (limitAt gas (s .limits)))
+verdicts s r e gas = rw (verdicts-in s r (accepted-result e .readings) (accepted-result e .result), verdict-at gas) (justified (contained s r e .weighted gas) (limitAt gas (s .limits)))

@@ -17,8 +17,9 @@ use Rattle.arith.proofs.Parts.{zs, mul-parts}
 use Rattle.arith.proofs.Size.{abs-parts, wider-size, product-size, scaled-size, divided-size}
 use Rattle.arith.proofs.Width.{exactly-narrow, wider-narrow, sum-narrow, difference-narrow, scaled-narrow, product-narrow, divided-narrow}
 use Rattle.reading.specs.declared.Message.{Message}
-use Rattle.reading.specs.declared.Bag.{Bag}
+use Rattle.reading.specs.declared.Reading.the-variants as reading
 use Rattle.reading.specs.Units.{unitsOf}
+use Rattle.reading.proofs.Usable.{usable}
 use Rattle.reading.specs.Gas.{Gas, HC, CO, CO2, isNOx, messageAt}
 use Rattle.bag.specs.declared.Part.{Part}
 use Rattle.bag.specs.declared.Triple.{Triple}
@@ -32,19 +33,26 @@ use Rattle.stage.specs.Part.{gtr, kelvinOf, volumeOf, gOf, qOf, concentrationOf
 use Rattle.stage.specs.Test.{weightsOf, weightedOf}
 use Rattle.stage.specs.Ranges.{largestConcentration}
 use Rattle.stage.proofs.Sizes.{kelvin-least, vapour-most, divisor-least, kh-size, weights-whole}
-use Rattle.part.specs.Part.{endsAt, endsOf, readingsOf, sidesOf, volumeIn, gasMass, massIn, ratesOf, partOf}
+use Rattle.part.specs.Part.{endsAt, volumeIn, gasMass, massIn, ratesOf, partOf}
 use Rattle.part.specs.Room.{PartRanges}
+use Rattle.part.specs.declared.Sides.{Sides}
+use Rattle.part.specs.declared.PartRead.{PartRead}
+use Rattle.part.specs.declared.PartRead.the-variants as PartRead
+use Rattle.part.specs.Read.{readPart}
+use Rattle.part.proofs.Read.{units-held}
 use Rattle.part.proofs.Each.{each-at}
+use Rattle.emission.specs.declared.Readings.{Readings}
+use Rattle.emission.specs.declared.Read.the-variants.{Units}
+use Rattle.emission.proofs.Taken.{read-parts, third-read}
 use Rattle.part.proofs.Sizes.{volume-ranges, masses-ranges, concentration-sizes, kh-ranges}
 use Rattle.emission.specs.declared.TestResult.{TestResult}
 use Rattle.emission.specs.declared.Answer.the-variants.{Result}
-use Rattle.emission.specs.Test.{readingsIn, nothing, noPart, thirdPart, partsIn, weightedGases, resultOf, testAnswer}
+use Rattle.emission.specs.Test.{readIn, nothing, noPart, thirdPart, partsIn, weightedGases, resultOf, testAnswer}
 use Rattle.emission.specs.Room.{PartsRanges}
 use Rattle.emission.proofs.Ranges.{parts-ranges}
 use Rattle.claims.specs.Statements.{concentrationIn, Ordinary, OrdinaryTest, widthOf}
 use Rattle.claims.proofs.Accepted.{accepted-result}
 use Rattle.claims.proofs.Gases.{dryMassIn, khIn, mass-at}
-use Rattle.claims.proofs.Stages.{reading-number}
 
 -- ---- exact numbers: what is made of them without a rounding has both ends the same
 own-size : (e : Ends) → Sized (natAbs (e .lower) + natAbs (e .upper)) e
@@ -61,12 +69,8 @@ quotient-narrow : {a : Ends} (d : ℤ) → pos 0 <ℤ d → Narrow 0 a → Narro
 quotient-narrow (pos d) p h = divided-narrow {q = 0} d (omega zs) (wider-narrow (omega arith) h)
 quotient-narrow (negsuc d) p h = absurd (p .lt)
 
-reading-narrow : (message : Message) → Narrow 0 (endsOf (unitsOf message))
-reading-narrow message = let u = reading-number message in rw (u .exact) (exactly-narrow (pos (u .units)))
-
-reading-narrow-at : (gas : Gas) (bag : Bag) → Narrow 0 (endsAt gas (readingsOf bag))
-unfolding readingsOf
-reading-narrow-at gas bag = rw (each-at gas) (reading-narrow (messageAt gas bag))
+reading-narrow : (message : Message) {ends : Ends} → unitsOf message ≡ reading.Units ends → Narrow 0 ends
+reading-narrow message h = let u = usable message h in rw (u .exact) (exactly-narrow (pos (u .units)))
 
 -- ---- one law a stage
 combination-narrow : {w : ℕ} {a b c : Ends} (j k l : ℕ) → Narrow w a → Narrow w b → Narrow w c → Narrow (j * w + k * w + l * w) (combinationOf j a k b l c)
@@ -106,7 +110,13 @@ weighted-narrow {w} weights e a b c =
 abbrev massWidth : Gas → ℕ
 massWidth gas = cond (isNOx gas) 1941 245
 
-module _ {t : Triple} {p : Part} (r : PartRanges t p (sidesOf p)) (d : 100 ≤ t .d) where
+module _ {t : Triple} {p : Part} {sides : Sides} (part : ℕ) (read : readPart part p ≡ PartRead.Units sides) (r : PartRanges t p sides) (d : 100 ≤ t .d) where
+  bag-narrow : (gas : Gas) → Narrow 0 (endsAt gas (sides .bag))
+  bag-narrow gas = reading-narrow (messageAt gas (p .bag)) (units-held part p sides read gas .bag)
+
+  air-narrow : (gas : Gas) → Narrow 0 (endsAt gas (sides .air))
+  air-narrow gas = reading-narrow (messageAt gas (p .air)) (units-held part p sides read gas .air)
+
   volume-narrow : Narrow 1 (volumeIn p)
   unfolding volumeOf
   volume-narrow =
@@ -124,15 +134,14 @@ module _ {t : Triple} {p : Part} (r : PartRanges t p (sidesOf p)) (d : 100 ≤ t
       let l = volume-least in
       record { lower = omega (zs, abs-parts (volumeIn p .lower)); upper = omega (zs, abs-parts (volumeIn p .upper)) }
 
-  concentration-narrow-in : (gas : Gas) → Narrow 1 (concentrationIn gas t p)
+  concentration-narrow-in : (gas : Gas) → Narrow 1 (concentrationIn gas t sides)
   unfolding gOf
   concentration-narrow-in gas =
-      let b = reading-narrow-at in
-      concentration-narrow (qOf (t .d)) (omega arith) (b gas (p .bag)) (b gas (p .air))
-      (wider-narrow (omega arith) (combination-narrow 10 (t .wc) (t .wh) (b CO2 (p .bag)) (b CO (p .bag)) (b HC (p .bag))))
+      concentration-narrow (qOf (t .d)) (omega arith) (bag-narrow gas) (air-narrow gas)
+      (wider-narrow (omega arith) (combination-narrow 10 (t .wc) (t .wh) (bag-narrow CO2) (bag-narrow CO) (bag-narrow HC)))
 
   -- 200,000,000 + 268,435,456 is at most 4,096,000 x 115, and 2,100,000 x 116 at most 1,000,000 x 244
-  dry-mass : (gas : Gas) → Ordinary gas t p → Narrow 245 (dryMassIn gas t p)
+  dry-mass : (gas : Gas) → Ordinary gas t p sides → Narrow 245 (dryMassIn gas t p sides)
   unfolding gasMass
   dry-mass gas o =
       mass-narrow (densityAt gas (p .density)) 116 244 (r .ranged .density gas .1) (omega arith)
@@ -149,7 +158,7 @@ module _ {t : Triple} {p : Part} (r : PartRanges t p (sidesOf p)) (d : 100 ≤ t
 
   -- within 256 ppm of zero the gas volume is at most 51,200,000 and its ends 51 apart, the mass 107,520,000 and 109 apart; and
   -- 107,520,000 + 179,536 x 109 is at most 65,536 x 1,940
-  nox-mass : (gas : Gas) → Ordinary gas t p → Sized 1048576 (concentrationIn gas t p) → Narrow 1941 (noxMassOf (dryMassIn gas t p) (khIn p))
+  nox-mass : (gas : Gas) → Ordinary gas t p sides → Sized 1048576 (concentrationIn gas t sides) → Narrow 1941 (noxMassOf (dryMassIn gas t p sides) (khIn p))
   unfolding noxMassOf gasMass massOf gasVolumeOf
   nox-mass gas o c =
       let v = volume-sized (o .volume) in
@@ -160,41 +169,45 @@ module _ {t : Triple} {p : Part} (r : PartRanges t p (sidesOf p)) (d : 100 ≤ t
       let mass = mass-narrow d 51 108 most (omega arith) (gas-volume-narrow 1048576 50 (omega arith) v c volume-narrow (concentration-narrow-in gas)) in
       divided-narrow {q = 1940} 65536 (omega arith) (wider-narrow (omega arith) (product-narrow mass-size (kh-size (kh-ranges r)) mass kh-narrow))
 
-  mass-in : (gas : Gas) → Ordinary gas t p → Narrow (massWidth gas) (endsAt gas (massIn t p (sidesOf p)))
+  mass-in : (gas : Gas) → Ordinary gas t p sides → Narrow (massWidth gas) (endsAt gas (massIn t p sides))
   mass-in gas o = rw (mass-at gas) (go (isNOx gas) (o .nox))
     where
-      go : (b : Bool) → (b ≡ true → Sized 1048576 (concentrationIn gas t p)) → Narrow (cond b 1941 245) (cond b (noxMassOf (dryMassIn gas t p) (khIn p)) (dryMassIn gas t p))
+      go : (b : Bool) → (b ≡ true → Sized 1048576 (concentrationIn gas t sides)) → Narrow (cond b 1941 245) (cond b (noxMassOf (dryMassIn gas t p sides) (khIn p)) (dryMassIn gas t p sides))
       go true c = nox-mass gas o (c refl)
       go false c = dry-mass gas o
 
-  rate-in : (gas : Gas) → Ordinary gas t p → Narrow (suc (massWidth gas)) (endsAt gas (partOf t p (sidesOf p) .rate))
+  rate-in : (gas : Gas) → Ordinary gas t p sides → Narrow (suc (massWidth gas)) (endsAt gas (partOf t p sides .rate))
   unfolding partOf ratesOf
   rate-in gas o = rw (each-at gas) (rate-narrow (p .distance) (o .distance) (mass-in gas o))
 
 -- ---- the test
-module _ {s : BagSheet} (t : Tested s) (r : PartsRanges s (readingsIn s)) where
-  third-in : (gas : Gas) → OrdinaryTest gas s → Narrow (suc (massWidth gas)) (endsAt gas (thirdPart s (sidesOf (s .third)) .rate))
+module _ {s : BagSheet} {readings : Readings} (t : Tested s) (read : readIn s ≡ Units readings) (r : PartsRanges s readings) where
+  third-in : (gas : Gas) → OrdinaryTest gas s readings → Narrow (suc (massWidth gas)) (endsAt gas (thirdPart s (readings .third) .rate))
   unfolding thirdPart nothing
   third-in gas o = go (eqb (s .class) 3) (eqb-true (s .class) 3)
     where
-      go : (b : Bool) → (b ≡ true → s .class ≡ 3) → Narrow (suc (massWidth gas)) (endsAt gas (cond b (partOf (s .triple) (s .third) (sidesOf (s .third))) noPart .rate))
-      go true f = rate-in (r .third (f refl)) (t .d .0) gas (o .third (f refl))
+      go : (b : Bool) → (b ≡ true → s .class ≡ 3) → Narrow (suc (massWidth gas)) (endsAt gas (cond b (partOf (s .triple) (s .third) (readings .third)) noPart .rate))
+      go true f = rate-in 3 (third-read (s .class) (s .third) (read-parts read .third) (f refl)) (r .third (f refl)) (t .d .0) gas (o .third (f refl))
       go false f = rw (each-at gas) (wider-narrow (omega arith) (exactly-narrow (pos 0)))
 
-  weighted-in : (gas : Gas) → OrdinaryTest gas s → Narrow (suc (suc (massWidth gas))) (endsAt gas (resultOf s (partsIn s (readingsIn s)) .weighted))
+  weighted-in : (gas : Gas) → OrdinaryTest gas s readings → Narrow (suc (suc (massWidth gas))) (endsAt gas (resultOf s (partsIn s readings) .weighted))
   unfolding resultOf partsIn weightedGases
   weighted-in gas o =
       rw (each-at gas)
       (weighted-narrow (weightsOf (s .class)) (weights-whole (s .class) (t .class .0) (t .class .1))
-      (rate-in (r .first) (t .d .0) gas (o .first)) (rate-in (r .second) (t .d .0) gas (o .second)) (third-in gas o))
+      (rate-in 1 (read-parts read .first) (r .first) (t .d .0) gas (o .first)) (rate-in 2 (read-parts read .second) (r .second) (t .d .0) gas (o .second)) (third-in gas o))
 
 -- each stage after the mass adds one
 room : (b : Bool) → suc (suc (cond b 1941 245)) ≤ cond b 2000 300
 room true = omega arith
 room false = omega arith
 
-pub widths : (s : BagSheet) (r : TestResult) → testAnswer s ≡ Result r → (gas : Gas) → OrdinaryTest gas s → Narrow (widthOf gas) (endsAt gas (r .weighted))
-widths s r e gas o =
+pub widths : (s : BagSheet) (r : TestResult) (readings : Readings) → testAnswer s ≡ Result r → readIn s ≡ Units readings → (gas : Gas) → OrdinaryTest gas s readings → Narrow (widthOf gas) (endsAt gas (r .weighted))
+widths s r readings e read gas o =
     let a = accepted-result e in
     let sound = accepted-sound s (a .sheet) in
-    rw (a .result) (wider-narrow (room (isNOx gas)) (weighted-in (sound .tested) (parts-ranges sound (a .late)) gas o))
+    let first = a .read in
+    let same : a .readings ≡ readings = cc in
+    let late = rw same at (a .late) in
+    let result = rw same at (a .result) in
+    rw result (wider-narrow (room (isNOx gas)) (weighted-in (sound .tested) read (parts-ranges sound read late) gas o))

@@ -2,7 +2,7 @@
 use mathlib.Core.Path.{_≡_, refl}
 use mathlib.Core.Bool.{Bool, true, false, cond}
 use mathlib.Core.List.{[], _∷_}
-use Prim.Native.Nat.{_*_, _≤_}
+use Prim.Native.Nat.{ℕ, _*_, _≤_}
 use native.Mathlib.Omega.{arith}
 use lib.Dec.{eqb}
 use borrow.Author.Tests.{eqb-true}
@@ -15,7 +15,7 @@ use Rattle.bag.specs.declared.BagSheet.{BagSheet}
 use Rattle.bag.specs.declared.Part.{Part}
 use Rattle.bag.specs.declared.Triple.{Triple}
 use Rattle.bag.specs.Sheet.{ofThird}
-use Rattle.bag.specs.Sound.{Tested, Sound}
+use Rattle.bag.specs.Sound.{Tested, Ranged, Sound}
 use Rattle.bag.proofs.Sound.{apart, third-holds}
 use Rattle.stage.specs.declared.Weights.{Weights}
 use Rattle.stage.specs.Ranges.{WeightedRanges, largestMass, largestNoxMass, largestRate}
@@ -24,65 +24,53 @@ use Rattle.part.specs.declared.Gases.{Gases}
 use Rattle.part.specs.declared.Sides.{Sides}
 use Rattle.part.specs.Part.{endsAt, diluted, dryEnough, ratesOf, partOf}
 use Rattle.part.specs.Room.{TripleRanges, PartRanges}
+use Rattle.part.specs.declared.PartRead.{PartRead}
+use Rattle.part.specs.declared.PartRead.the-variants as PartRead
+use Rattle.part.specs.Read.{readPart}
 use Rattle.part.proofs.Each.{each-at}
-use Rattle.part.proofs.Sizes.{readings-sizes, mass-in-sizes}
+use Rattle.part.proofs.Sizes.{bag-sizes, air-sizes, mass-in-sizes}
 use Rattle.emission.specs.declared.Readings.{Readings}
-use Rattle.emission.specs.Test.{readingsIn, dilution, humidity, lateChecks, judgeLate, nothing, noPart, thirdPart, partsIn, weightedGases}
+use Rattle.emission.specs.Test.{readIn, dilution, humidity, lateChecks, judgeLate, nothing, noPart, thirdPart, partsIn, weightedGases}
+use Rattle.emission.specs.declared.Read.the-variants.{Units}
+use Rattle.emission.proofs.Taken.{read-parts, third-read, third-bag-sizes}
 use Rattle.emission.specs.Room.{LateRanges, PartsRanges, RateSizes, WeighRanges, ResultRanges}
 
-module _ {s : BagSheet} (h : Sound s) where
+module _ {s : BagSheet} {r : Readings} (h : Sound s) (e : readIn s ≡ Units r) where
   triple-ranges : TripleRanges (s .triple)
   triple-ranges = let t = h .tested in record { d-most = t .d .1; wc-most = t .wc; wh-most = t .wh }
 
-  pub late-ranges : LateRanges s (readingsIn s)
+  pub late-ranges : LateRanges s r
   late-ranges =
+      let parts = read-parts e in
       record {
         triple-ranges = triple-ranges;
-        first-bag = readings-sizes (s .first .bag);
-        second-bag = readings-sizes (s .second .bag);
-        third-bag = readings-sizes (s .third .bag);
-        first = h .first .ranged;
-        second = h .second .ranged;
-        third = λ e. h .third e .ranged;
+        first-bag = bag-sizes 1 (s .first) (parts .first);
+        second-bag = bag-sizes 2 (s .second) (parts .second);
+        third-bag = third-bag-sizes (s .class) (s .third) (parts .third);
+        first = h .first;
+        second = h .second;
+        third = h .third;
       }
 
+  part-ranges : (part : ℕ) (p : Part) {sides : Sides} → Ranged p → readPart part p ≡ PartRead.Units sides → diluted (s .triple) (sides .bag) ≡ true → dryEnough p ≡ true → PartRanges (s .triple) p sides
+  part-ranges part p ranged read rich humid =
+      record { triple-ranges = triple-ranges; ranged = ranged; bag-sizes = bag-sizes part p read; air-sizes = air-sizes part p read; dilution = rich; humidity = humid }
+
   -- past refusals 13 and 14
-  pub parts-ranges : judgeLate s (readingsIn s) ≡ Accepted → PartsRanges s (readingsIn s)
+  pub parts-ranges : judgeLate s r ≡ Accepted → PartsRanges s r
   unfolding lateChecks
-  parts-ranges e =
-      let r = readingsIn s in
+  parts-ranges late =
+      let parts = read-parts e in
       let rich3 = ofThird (s .class) (dilution 3 (diluted (s .triple) (r .third .bag)) ∷ []) in
       let humid3 = ofThird (s .class) (humidity 3 (dryEnough (s .third)) ∷ []) in
-      let all = judged-holds (lateChecks s r) e in
+      let all = judged-holds (lateChecks s r) late in
       let later = apart rich3 (humidity 1 (dryEnough (s .first)) ∷ humidity 2 (dryEnough (s .second)) ∷ humid3) (all .1 .1) in
       record {
-        first =
-            record {
-              triple-ranges = triple-ranges;
-              ranged = h .first .ranged;
-              bag-sizes = readings-sizes (s .first .bag);
-              air-sizes = readings-sizes (s .first .air);
-              dilution = all .0;
-              humidity = later .1 .0;
-            };
-        second =
-            record {
-              triple-ranges = triple-ranges;
-              ranged = h .second .ranged;
-              bag-sizes = readings-sizes (s .second .bag);
-              air-sizes = readings-sizes (s .second .air);
-              dilution = all .1 .0;
-              humidity = later .1 .1 .0;
-            };
+        first = part-ranges 1 (s .first) (h .first) (parts .first) (all .0) (later .1 .0);
+        second = part-ranges 2 (s .second) (h .second) (parts .second) (all .1 .0) (later .1 .1 .0);
         third =
-            λ c. record {
-              triple-ranges = triple-ranges;
-              ranged = h .third c .ranged;
-              bag-sizes = readings-sizes (s .third .bag);
-              air-sizes = readings-sizes (s .third .air);
-              dilution = third-holds (s .class) _ (later .0) c .0;
-              humidity = third-holds (s .class) _ (later .1 .1 .1) c .0;
-            };
+            λ c. part-ranges 3 (s .third) (h .third c) (third-read (s .class) (s .third) (parts .third) c)
+            (third-holds (s .class) _ (later .0) c .0) (third-holds (s .class) _ (later .1 .1 .1) c .0);
       }
 
 -- ---- rates

@@ -13,6 +13,7 @@ use Rattle.refusal.specs.declared.Refusal.the-variants.{Dilution, Humidity}
 use Rattle.refusal.specs.Judging.{Check, judgedBy}
 use Rattle.reading.specs.Gas.{Gas, HC, CO, NOx, CO2, among}
 use Rattle.bag.specs.declared.BagSheet.{BagSheet}
+use Rattle.bag.specs.declared.Part.{Part}
 use Rattle.bag.specs.declared.Fuel.{Fuel}
 use Rattle.bag.specs.declared.Limits.{Limits}
 use Rattle.bag.specs.Sheet.{limitAt, ofThird, judgeSheet}
@@ -22,16 +23,34 @@ use Rattle.stage.specs.Test.{weightsOf, weightedOf, fuelOf, verdictOf}
 use Rattle.part.specs.declared.Gases.{Gases}
 use Rattle.part.specs.declared.PartResult.{PartResult}
 use Rattle.part.specs.declared.Sides.{Sides}
-use Rattle.part.specs.Part.{endsAt, each, sidesOf, diluted, dryEnough, partOf}
+use Rattle.part.specs.declared.PartRead.{PartRead}
+use Rattle.part.specs.declared.PartRead.the-variants as partRead
+use Rattle.part.specs.Read.{readPart}
+use Rattle.part.specs.Part.{endsAt, each, diluted, dryEnough, partOf}
 use Rattle.emission.specs.declared.Readings.{Readings}
+use Rattle.emission.specs.declared.Read.{Read}
+use Rattle.emission.specs.declared.Read.the-variants as read
 use Rattle.emission.specs.declared.Parts.{Parts}
 use Rattle.emission.specs.declared.Verdicts.{Verdicts}
 use Rattle.emission.specs.declared.TestResult.{TestResult}
 use Rattle.emission.specs.declared.Answer.{Answer}
 use Rattle.emission.specs.declared.Answer.the-variants.{Result, Refused}
 
-abbrev pub readingsIn : BagSheet → Readings
-readingsIn s = record { first = sidesOf (s .first); second = sidesOf (s .second); third = sidesOf (s .third) }
+-- ---- the readings, or refusal 12
+unfoldable pub nothing : Gases
+nothing = each (λ gas. exactly (pos 0))
+
+-- class 3 alone has a third part: of another it is not read
+unfoldable pub readThird : ℕ → Part → PartRead
+readThird class third = cond (eqb class 3) (readPart 3 third) (partRead.Units (record { bag = nothing; air = nothing }))
+
+abbrev pub onPart : PartRead → (Sides → Read) → Read
+onPart (partRead.Units sides) next = next sides
+onPart (partRead.Refused refusal) next = read.Refused refusal
+
+unfoldable pub readIn : BagSheet → Read
+readIn s =
+    onPart (readPart 1 (s .first)) (λ first. onPart (readPart 2 (s .second)) (λ second. onPart (readThird (s .class) (s .third)) (λ third. read.Units (record { first = first; second = second; third = third }))))
 
 -- ---- refusals 13 and 14, over all parts each, the lowest number first
 -- 13: "G not below Q"
@@ -55,9 +74,6 @@ abbrev pub judgeLate : BagSheet → Readings → Judged
 judgeLate s r = judgedBy (lateChecks s r)
 
 -- ---- the parts. A third part that the class does not have is nothing
-unfoldable pub nothing : Gases
-nothing = each (λ gas. exactly (pos 0))
-
 abbrev pub noPart : PartResult
 noPart = record { volume = exactly (pos 0); mass = nothing; rate = nothing }
 
@@ -108,6 +124,13 @@ abbrev pub handUp : Judged → Answer → Answer
 handUp Accepted next = next
 handUp (judged.Refused refusal) next = Refused refusal
 
+abbrev pub onRead : Read → (Readings → Answer) → Answer
+onRead (read.Units readings) next = next readings
+onRead (read.Refused refusal) next = Refused refusal
+
+-- past refusal 12
+unfoldable pub readAnswer : BagSheet → Readings → Answer
+readAnswer s r = handUp (judgeLate s r) (Result (resultOf s (partsIn s r)))
+
 unfoldable pub testAnswer : BagSheet → Answer
-testAnswer s =
-    handUp (judgeSheet s) (handUp (judgeLate s (readingsIn s)) (Result (resultOf s (partsIn s (readingsIn s)))))
+testAnswer s = handUp (judgeSheet s) (onRead (readIn s) (readAnswer s))

@@ -6,6 +6,7 @@ use bag::Limits;
 use bag::Part;
 use bag::Triple;
 use part::Gases;
+use part::PartRead;
 use part::PartResult;
 use part::Sides;
 use refusal::Judged;
@@ -14,14 +15,14 @@ use stage::Verdict;
 use stage::Weights;
 ghost use mathlib.Core.Path.{_≡_};
 ghost use mathlib.Core.List.{[], _∷_};
-ghost use Rattle.refusal.specs.declared.Refusal.the-variants.{Parts as WrongParts, Dilution, Humidity};
+ghost use Rattle.refusal.specs.declared.Refusal.the-variants.{Dilution, Humidity};
 ghost use Rattle.refusal.specs.Judging.{checked, checkedAll};
 ghost use Rattle.bag.specs.Sheet.{ofThird};
 ghost use Rattle.bag.specs.Sound.{Ranged};
 ghost use Rattle.part.specs.Part.{diluted, dryEnough};
 ghost use Rattle.part.specs.Room.{ReadingSizes, TripleRanges, PartRanges};
-ghost use Rattle.emission.specs.Test.{readingsIn, dilution, humidity, judgeLate, nothing, noPart, thirdPart, partsIn, weightedGases, verdictsOf, fuelIn, resultOf, handUp, testAnswer};
-ghost use Rattle.emission.specs.Room.{LateRanges, PartsRanges, RateSizes, WeighRanges, LimitRanges, FuelSheet, ResultRanges};
+ghost use Rattle.emission.specs.Test.{readThird, readIn, dilution, humidity, judgeLate, nothing, noPart, thirdPart, partsIn, weightedGases, verdictsOf, fuelIn, resultOf, readAnswer, testAnswer};
+ghost use Rattle.emission.specs.Room.{LateRanges, PartsRanges, RateSizes, WeighRanges, LimitRanges, FuelSheet, ResultRanges, ReadSheet};
 
 // The readings of a test in units.
 pub struct Readings {
@@ -57,13 +58,41 @@ pub enum Answer {
     Refused(Refusal),
 }
 
-fn readings_in(s: BagSheet) -> Readings
-    ensures { λ r. ⌜ r ≡ readingsIn s ⌝ }
+// The readings of a test, or refusal 12.
+pub enum Read {
+    Units(Readings),
+    Refused(Refusal),
+}
+
+// A third part that the class does not have is not read.
+fn read_third(class: u32, third: Part) -> PartRead
+    ensures { λ r. ⌜ r ≡ readThird class third ⌝ }
 {
-    Readings {
-        first: part::sides_of(s.first),
-        second: part::sides_of(s.second),
-        third: part::sides_of(s.third),
+    if class == 3 {
+        return part::read_part(3, third);
+    }
+    PartRead::Units(Sides {
+        bag: no_gases(),
+        air: no_gases(),
+    })
+}
+
+fn readings_in(s: BagSheet) -> Read
+    ensures { λ r. ⌜ r ≡ readIn s ⌝ }
+{
+    match part::read_part(1, s.first) {
+        PartRead::Refused(refusal) => Read::Refused(refusal),
+        PartRead::Units(first) => match part::read_part(2, s.second) {
+            PartRead::Refused(refusal) => Read::Refused(refusal),
+            PartRead::Units(second) => match read_third(s.class, s.third) {
+                PartRead::Refused(refusal) => Read::Refused(refusal),
+                PartRead::Units(third) => Read::Units(Readings {
+                    first,
+                    second,
+                    third,
+                }),
+            },
+        },
     }
 }
 
@@ -219,13 +248,14 @@ fn result_of(s: BagSheet, parts: Parts) -> TestResult
     }
 }
 
-// A refusal, as an answer. It is asked of a refused stage alone; the other arm is there because a match has every case.
-fn refused(j: Judged) -> Answer
-    ensures { λ r. ⌜ r ≡ handUp j (Answer.Refused WrongParts) ⌝ }
+// Past refusal 12: 13 and 14, or the result.
+fn test_read(s: BagSheet, readings: Readings) -> Answer
+    requires { ⌜ ReadSheet s readings ⌝ }
+    ensures { λ r. ⌜ r ≡ readAnswer s readings ⌝ }
 {
-    match j {
+    match judge_late(s, readings) {
         Judged::Refused(refusal) => Answer::Refused(refusal),
-        Judged::Accepted => Answer::Refused(Refusal::Parts),
+        Judged::Accepted => Answer::Result(result_of(s, parts_in(s, readings))),
     }
 }
 
@@ -233,15 +263,11 @@ fn refused(j: Judged) -> Answer
 pub fn test(s: BagSheet) -> Answer
     ensures { λ r. ⌜ r ≡ testAnswer s ⌝ }
 {
-    let sheet = bag::judge(s);
-    let Judged::Accepted = sheet else {
-        return refused(sheet);
-    };
-    let readings = readings_in(s);
-    let late = judge_late(s, readings);
-    let Judged::Accepted = late else {
-        return refused(late);
-    };
-    let parts = parts_in(s, readings);
-    Answer::Result(result_of(s, parts))
+    match bag::judge(s) {
+        Judged::Refused(refusal) => Answer::Refused(refusal),
+        Judged::Accepted => match readings_in(s) {
+            Read::Refused(refusal) => Answer::Refused(refusal),
+            Read::Units(readings) => test_read(s, readings),
+        },
+    }
 }

@@ -1,17 +1,15 @@
 -- How large a part's readings, masses and rates can be, so that each stage is given what it asks. Assumes nothing.
-use mathlib.Core.Path.{_≡_, refl}
+use mathlib.Core.Path.{_≡_}
 use mathlib.Core.Bool.{Bool, true, false, cond}
 use Prim.Native.Nat.{ℕ, _*_, _≤_}
 use native.Mathlib.Omega.{arith}
 use Rattle.arith.specs.declared.Ends.{Ends}
 use Rattle.arith.specs.Fitting.{Sized}
 use Rattle.arith.proofs.Size.{wider-size}
-use Rattle.reading.specs.declared.Bag.{Bag}
 use Rattle.reading.specs.declared.Message.{Message}
-use Rattle.reading.specs.declared.Reading.{Reading}
-use Rattle.reading.specs.declared.Reading.the-variants.{Units, Unusable}
+use Rattle.reading.specs.declared.Reading.the-variants.{Units}
 use Rattle.reading.specs.Units.{unitsOf}
-use Rattle.reading.specs.Gas.{Gas, HC, CO, CO2, isNOx, messageAt}
+use Rattle.reading.specs.Gas.{Gas, HC, CO, CO2, isNOx}
 use Rattle.reading.proofs.Usable.{usable}
 use Rattle.bag.specs.declared.Part.{Part}
 use Rattle.bag.specs.declared.Triple.{Triple}
@@ -23,21 +21,24 @@ use Rattle.stage.proofs.UpTo.{upTo-size, exactly-upTo}
 use Rattle.stage.proofs.Sizes.{volume-size, g-upTo, concentration-size, gas-volume-size, mass-size, kh-size, nox-mass-size}
 use Rattle.part.specs.declared.Gases.{Gases}
 use Rattle.part.specs.declared.Sides.{Sides}
+use Rattle.part.specs.declared.PartRead.{PartRead}
+use Rattle.part.specs.declared.PartRead.the-variants as PartRead
+use Rattle.part.specs.Read.{readPart}
+use Rattle.part.proofs.Read.{units-held}
 use Rattle.part.proofs.Each.{each-at}
-use Rattle.part.specs.Part.{endsAt, endsOf, readingsOf, gIn, volumeIn, gasMass, massesOf, correctedFor, massIn}
+use Rattle.part.specs.Part.{endsAt, gIn, volumeIn, gasMass, massesOf, correctedFor, massIn}
 use Rattle.part.specs.Room.{ReadingSizes, GasRanges, MassesRanges, DryMassSizes, MassSizes, PartRanges}
 
--- ---- readings, usable or not
-reading-upTo : (message : Message) → UpTo largestReading (endsOf (unitsOf message))
-reading-upTo message = go (unitsOf message) refl
-  where
-    go : (r : Reading) → unitsOf message ≡ r → UpTo largestReading (endsOf r)
-    go (Units ends) e = let u = usable message e in rw (u .exact) (exactly-upTo (u .units) (u .limit))
-    go Unusable e = exactly-upTo 0 (omega arith)
+-- ---- readings
+reading-upTo : (message : Message) {ends : Ends} → unitsOf message ≡ Units ends → UpTo largestReading ends
+reading-upTo message e = let u = usable message e in rw (u .exact) (exactly-upTo (u .units) (u .limit))
 
-pub readings-sizes : (bag : Bag) → ReadingSizes (readingsOf bag)
-unfolding readingsOf
-readings-sizes bag gas = rw (each-at gas) (reading-upTo (messageAt gas bag))
+module _ (part : ℕ) (p : Part) {sides : Sides} (e : readPart part p ≡ PartRead.Units sides) where
+  pub bag-sizes : ReadingSizes (sides .bag)
+  bag-sizes gas = reading-upTo _ (units-held part p sides e gas .bag)
+
+  pub air-sizes : ReadingSizes (sides .air)
+  air-sizes gas = reading-upTo _ (units-held part p sides e gas .air)
 
 -- ---- masses
 pub gas-mass-size :

@@ -1,2 +1,3 @@
 pub mod Part
 pub mod Room
+pub mod Read

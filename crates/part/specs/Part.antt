@@ -1,14 +1,8 @@
 -- One part of a test (01, Bag sheet and figures): its readings, and from them and its fields the volume, and each gas's mass and rate.
 use mathlib.Core.Bool.{Bool, cond}
 use Prim.Native.Nat.{ℕ}
-use lib.IntN.{pos}
 use Rattle.arith.specs.declared.Ends.{Ends}
-use Rattle.arith.specs.Stages.{exactly}
-use Rattle.reading.specs.declared.Bag.{Bag}
-use Rattle.reading.specs.declared.Reading.{Reading}
-use Rattle.reading.specs.declared.Reading.the-variants.{Units, Unusable}
-use Rattle.reading.specs.Units.{unitsOf}
-use Rattle.reading.specs.Gas.{Gas, HC, CO, NOx, CO2, isNOx, among, messageAt}
+use Rattle.reading.specs.Gas.{Gas, HC, CO, NOx, CO2, isNOx, among}
 use Rattle.bag.specs.Sheet.{densityAt}
 use Rattle.bag.specs.declared.Part.{Part}
 use Rattle.bag.specs.declared.Triple.{Triple}
@@ -24,17 +18,6 @@ endsAt gas g = among gas (g .hc) (g .co) (g .nox) (g .co2)
 
 unfoldable pub each : (Gas → Ends) → Gases
 each f = record { hc = f HC; co = f CO; nox = f NOx; co2 = f CO2 }
-
--- the ends of a reading; an unusable one is refused before, and stands as 0
-abbrev pub endsOf : Reading → Ends
-endsOf (Units ends) = ends
-endsOf Unusable = exactly (pos 0)
-
-unfoldable pub readingsOf : Bag → Gases
-readingsOf bag = each (λ gas. endsOf (unitsOf (messageAt gas bag)))
-
-abbrev pub sidesOf : Part → Sides
-sidesOf p = record { bag = readingsOf (p .bag); air = readingsOf (p .air) }
 
 -- "G = 10 CO2 + wc CO + wh HC in bag units"
 abbrev pub gIn : Triple → Gases → Ends

@@ -3,11 +3,11 @@ use arith::Ends;
 use bag::Densities;
 use bag::Part;
 use bag::Triple;
-use reading::Bag;
 use reading::Message;
+use refusal::Refusal;
 ghost use mathlib.Core.Path.{_≡_};
-ghost use Rattle.reading.specs.Units.{unitsOf};
-ghost use Rattle.part.specs.Part.{endsOf, readingsOf, sidesOf, gIn, diluted, dryEnough, gasMass, massesOf, volumeIn, correctedFor, ratesOf, massIn, partOf};
+ghost use Rattle.part.specs.Part.{gIn, diluted, dryEnough, gasMass, massesOf, volumeIn, correctedFor, ratesOf, massIn, partOf};
+ghost use Rattle.part.specs.Read.{readGas, sidesFrom, readPart};
 ghost use Prim.Native.Nat.{_≤_};
 ghost use Rattle.arith.specs.Fitting.{Sized};
 ghost use Rattle.bag.specs.Sound.{Ranged};
@@ -37,37 +37,89 @@ pub struct PartResult {
     pub rate: Gases,
 }
 
-// An unusable reading is refused before, and stands as 0.
-fn ends_of(message: Message) -> Ends
-    ensures { λ r. ⌜ r ≡ endsOf (unitsOf message) ⌝ }
-{
-    match reading::convert(message) {
-        reading::Reading::Units(ends) => ends,
-        reading::Reading::Unusable => arith::exactly(0),
-    }
+// The ends of a gas, in the bag and in the air.
+pub struct Pair {
+    pub bag: Ends,
+    pub air: Ends,
 }
 
-fn readings_of(bag: Bag) -> Gases
-    ensures { λ r. ⌜ r ≡ readingsOf bag ⌝ }
-{
-    let hc = bag.hc;
-    let co = bag.co;
-    let nox = bag.nox;
-    let co2 = bag.co2;
-    Gases {
-        hc: ends_of(hc),
-        co: ends_of(co),
-        nox: ends_of(nox),
-        co2: ends_of(co2),
-    }
+pub enum GasRead {
+    Units(Pair),
+    Refused(Refusal),
 }
 
-pub fn sides_of(p: Part) -> Sides
-    ensures { λ r. ⌜ r ≡ sidesOf p ⌝ }
+pub enum PartRead {
+    Units(Sides),
+    Refused(Refusal),
+}
+
+// Each message is converted once, the bag's before the air's: the ends of both, or refusal 12.
+fn read_gas(part: u32, gas: u32, bag: Message, air: Message) -> GasRead
+    ensures { λ r. ⌜ r ≡ readGas part gas bag air ⌝ }
 {
-    Sides {
-        bag: readings_of(p.bag),
-        air: readings_of(p.air),
+    let reading::Reading::Units(in_bag) = reading::convert(bag) else {
+        return GasRead::Refused(Refusal::Reading { part, gas, side: 1 });
+    };
+    let reading::Reading::Units(in_air) = reading::convert(air) else {
+        return GasRead::Refused(Refusal::Reading { part, gas, side: 2 });
+    };
+    GasRead::Units(Pair {
+        bag: in_bag,
+        air: in_air,
+    })
+}
+
+fn sides_from(hc: Pair, co: Pair, nox: Pair, co2: Pair) -> Sides
+    ensures { λ r. ⌜ r ≡ sidesFrom hc co nox co2 ⌝ }
+{
+    let bag_hc = hc.bag;
+    let bag_co = co.bag;
+    let bag_nox = nox.bag;
+    let bag_co2 = co2.bag;
+    let air_hc = hc.air;
+    let air_co = co.air;
+    let air_nox = nox.air;
+    let air_co2 = co2.air;
+    let bag = Gases {
+        hc: bag_hc,
+        co: bag_co,
+        nox: bag_nox,
+        co2: bag_co2,
+    };
+    let air = Gases {
+        hc: air_hc,
+        co: air_co,
+        nox: air_nox,
+        co2: air_co2,
+    };
+    Sides { bag, air }
+}
+
+pub fn read_part(part: u32, p: Part) -> PartRead
+    ensures { λ r. ⌜ r ≡ readPart part p ⌝ }
+{
+    let bag = p.bag;
+    let air = p.air;
+    let bag_hc = bag.hc;
+    let air_hc = air.hc;
+    let bag_co = bag.co;
+    let air_co = air.co;
+    let bag_nox = bag.nox;
+    let air_nox = air.nox;
+    let bag_co2 = bag.co2;
+    let air_co2 = air.co2;
+    match read_gas(part, 1, bag_hc, air_hc) {
+        GasRead::Refused(refusal) => PartRead::Refused(refusal),
+        GasRead::Units(hc) => match read_gas(part, 2, bag_co, air_co) {
+            GasRead::Refused(refusal) => PartRead::Refused(refusal),
+            GasRead::Units(co) => match read_gas(part, 3, bag_nox, air_nox) {
+                GasRead::Refused(refusal) => PartRead::Refused(refusal),
+                GasRead::Units(nox) => match read_gas(part, 4, bag_co2, air_co2) {
+                    GasRead::Refused(refusal) => PartRead::Refused(refusal),
+                    GasRead::Units(co2) => PartRead::Units(sides_from(hc, co, nox, co2)),
+                },
+            },
+        },
     }
 }
 

@@ -2,8 +2,12 @@
 use mathlib.Core.Path.{_≡_, refl}
 use Rattle.reading.specs.Gas.{Gas, HC, CO, NOx, CO2, among}
 
+-- what holds of all gases, one by one, holds of each
+pub by-gas : (P : Gas → Type 0) → P HC → P CO → P NOx → P CO2 → (gas : Gas) → P gas
+by-gas P hc co nox co2 HC = hc
+by-gas P hc co nox co2 CO = co
+by-gas P hc co nox co2 NOx = nox
+by-gas P hc co nox co2 CO2 = co2
+
 pub among-each : {A : Type 0} (gas : Gas) (f : Gas → A) → among gas (f HC) (f CO) (f NOx) (f CO2) ≡ f gas
-among-each HC f = refl
-among-each CO f = refl
-among-each NOx f = refl
-among-each CO2 f = refl
+among-each gas f = by-gas (λ g. among g (f HC) (f CO) (f NOx) (f CO2) ≡ f g) refl refl refl refl gas

@@ -9,7 +9,6 @@ unfolding sheetChecks
 returns c =
     let test = c .before .before in
     let first = test .before in
-    let readings = first .before .before .before in
     simp (
       c .check .ensures,
       c .before .class-holds .ensures,
@@ -17,16 +16,8 @@ returns c =
       first .part-values2 .ensures,
       first .before .part-values .ensures,
       first .before .before .third-values .ensures,
-      readings .part-readings2 .ensures,
-      readings .before .part-readings .ensures,
-      readings .before .before .third-readings .ensures,
       checkedAll-append,
     )
 
 pub judge-spec : {M : Type 1} → statement M
-judge-spec =
-    tie.close
-    (tie.spec
-    (λ c κs. tt) (λ c κs. tt) (λ c κs. tt) (λ c κs. tt) (λ c κs. tt)
-    (λ c κs. tt) (λ c κs. tt) (λ c κs. tt) (λ c κs. tt)
-    returns)
+judge-spec = tie.close (tie.spec (λ c κs. tt) (λ c κs. tt) (λ c κs. tt) (λ c κs. tt) (λ c κs. tt) (λ c κs. tt) returns)
