@@ -18,9 +18,9 @@ use Rattle.phase.specs.Phase.{firstRow, clutched}
 use Rattle.runs.specs.Corrected.{corrected}
 use Rattle.gear.specs.Own.{ownSecond, ownAt}
 use Rattle.gear.specs.Sheet.{rowOf}
-use Rattle.claims.proofs.Stores.{not-stored}
+use Rattle.walk.proofs.Stores.{not-stored}
 use Rattle.claims.proofs.Rows.{clutching, uncorrected-length, row-length}
-use Rattle.claims.proofs.Passes.{cap-length, pass-length}
+use Rattle.row.proofs.Passes.{cap-length, pass-length}
 use Rattle.claims.proofs.Seconds.{leastBy, Between, Second, first-second, cap-second, pass-second}
 use Rattle.claims.proofs.Smoothing.{Fit, pass-near, smoothed-fit}
 

@@ -17,7 +17,8 @@ use Rattle.phase.specs.Phase.{stopEnd, stopGear}
 use Rattle.gear.specs.Sheet.{gearAnswer}
 use Rattle.claims.specs.Rows.{finishedRow, Near}
 use Rattle.claims.proofs.Rows.{row-held, accepted-sound}
-use Rattle.claims.proofs.Seconds.{leastBy, least-range, last-gear}
+use Rattle.phase.proofs.Stops.{last-gear}
+use Rattle.claims.proofs.Seconds.{leastBy, least-range}
 use Rattle.claims.proofs.Smoothing.{Fit}
 use Rattle.claims.proofs.Finished.{row-fit}
 

@@ -7,9 +7,7 @@ pub mod Stages
 pub mod Contained
 pub mod Verdicts
 pub mod Figures
-pub mod Stores
 pub mod Rows
-pub mod Passes
 pub mod Seconds
 pub mod Smoothing
 pub mod Finished

@@ -25,7 +25,7 @@ use Rattle.gear.specs.Own.{ownAt, judgeClose}
 use Rattle.gear.specs.Sheet.{judgeSheet, gearAnswer, ifAccepted, withRow, rowOf, gearBuffer}
 use Rattle.gear.proofs.Sheet.{Sound, sheet-sound, buffer-refused}
 use Rattle.claims.specs.Rows.{finishedRow}
-use Rattle.claims.proofs.Stores.{Storing, stores-length, stored}
+use Rattle.walk.proofs.Stores.{Storing, stores-length, stored}
 
 -- ---- the row by itself
 -- the clutch is stored behind the gear of each second

@@ -17,7 +17,8 @@ use Rattle.row.specs.declared.Rule.the-variants.{NoFirst, NoShift, NoDrop, OneS
 use Rattle.row.specs.Row.{gearAt}
 use Rattle.row.specs.Corrections.{uncapped, capped, capAfter, capRuns, notFirst, byRule, ruled, passBy}
 use Rattle.phase.specs.Phase.{stopEnd, stopGear, firstGear, firstRow}
-use Rattle.claims.proofs.Passes.{first-at, capAt, cap-first, cap-next, cap-at, pass-first, pass-next}
+use Rattle.phase.proofs.Stops.{first-at, last-gear}
+use Rattle.row.proofs.Passes.{capAt, cap-first, cap-next, cap-at, pass-first, pass-next}
 
 -- the least gear of a second outside stops
 abbrev pub leastBy : ℕ → ℕ
@@ -91,17 +92,6 @@ module _ (most : ℕ) (some : 2 ≤ most) where
 
 -- ---- a second of a trace of n seconds
 module _ (trace : List ℕ) (n : ℕ) where
-  -- the last second of a stop run
-  pub last-gear : (k : ℕ) → k < n → stopAt trace k ≡ true → (k + 1 < n → stopAt trace (k + 1) ≡ false) → stopGear (stopEnd trace n k - k) ≡ 1
-  last-gear k l halt next =
-      let ends : stopEnd trace n k ≡ k + 1 = scan-on (stopAt trace) (λ i. i) (λ i. i) n k l halt ∙ go (decLt (k + 1) n) in
-      let one : stopEnd trace n k - k ≡ 1 = omega (arith, ends) in
-      ap stopGear one
-    where
-      go : Dec (k + 1 < n) → stopEnd trace n (k + 1) ≡ k + 1
-      go (yes below) = scan-out (stopAt trace) (λ i. i) (λ i. i) n (k + 1) below (next below)
-      go (no above) = scan-done (stopAt trace) (λ i. i) (λ i. i) n (k + 1) (omega arith)
-
   module _ (most : ℕ) (some : 2 ≤ most) where
     -- the second before one that is no stop has no gear 0
     before-drive : (least k gear : ℕ) → 1 ≤ least → suc k < n → stopAt trace (suc k) ≡ false → Second trace n most least k gear → Between 1 most gear
@@ -109,7 +99,7 @@ module _ (trace : List ℕ) (n : ℕ) where
       where
         go : (b : Bool) → stopAt trace k ≡ b → Between 1 most gear
         go true halt =
-            let one : gear ≡ 1 = s .halts halt ∙ last-gear k (omega arith) halt (λ below. ap (stopAt trace) (add-one k) ∙ drive) in
+            let one : gear ≡ 1 = s .halts halt ∙ last-gear trace n k (omega arith) halt (λ below. ap (stopAt trace) (add-one k) ∙ drive) in
             record { low = omega arith; high = omega arith }
         go false drives = wider lower (s .drives drives)
 

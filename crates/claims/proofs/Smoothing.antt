@@ -12,15 +12,16 @@ use lib.ListN.{length}
 use Rattle.refusal.proofs.Ranges.{both}
 use Rattle.walk.specs.Walk.{scan}
 use Rattle.walk.proofs.Walk.{scan-all}
+use Rattle.walk.proofs.Ends.{scan-before}
 use Rattle.trace.specs.House.{flagsAt, stopAt, noFirstAt}
 use Rattle.row.specs.declared.Rule.the-variants.{OneStep}
 use Rattle.row.specs.Row.{gearAt, setGear}
 use Rattle.row.specs.Corrections.{byRule, ruled, passBy}
 use Rattle.runs.specs.Runs.{goesOn, endAt, hasNoFirst, filled, takes, runJudged, rowAfter, nextAfter, smooth, smoothed}
 use Rattle.runs.proofs.Fuel.{end-gt}
+use Rattle.runs.proofs.Fills.{fill-length, fill-in, fill-before, fill-behind}
 use Rattle.claims.specs.Rows.{Near}
-use Rattle.claims.proofs.Stores.{Storing, stores-length, not-stored, not-yet, stored}
-use Rattle.claims.proofs.Passes.{pass-next}
+use Rattle.row.proofs.Passes.{pass-next}
 use Rattle.claims.proofs.Seconds.{leastBy, least-range, Second}
 
 -- a row of n seconds, each with a gear that it allows, and near the one before it outside stops
@@ -44,53 +45,6 @@ pass-near trace row n room k l drive =
 cond-false : (b x : Bool) → cond b false x ≡ true → (b ≡ false) × (x ≡ true)
 cond-false true x e = absurd (false≢true e)
 cond-false false x e = (refl, e)
-
--- every place before the one that a search ends at is good
-scan-before : (good : ℕ → Bool) (from count k : ℕ) → from ≤ k → k < scan good (λ i. i) (λ i. i) from count → good k ≡ true
-scan-before good from zero k h l = absurd (omega arith)
-scan-before good from (suc count) k h l =
-    go (good from) refl l (decLt from k) (λ past further. scan-before good (from + 1) count k (omega arith) further)
-  where
-    rest : ℕ
-    rest = scan good (λ i. i) (λ i. i) (from + 1) count
-
-    go : (b : Bool) → good from ≡ b → k < cond b rest from → Dec (from < k) → (from < k → k < rest → good k ≡ true) → good k ≡ true
-    go true e l (yes past) later = later past l
-    go true e l (no here) later =
-        let same : k ≡ from = omega arith in
-        ap good same ∙ e
-    go false e l d later = absurd (omega arith)
-
--- ---- a run filled with a gear
-abbrev filling : ℕ → ℕ → Storing (List ℕ)
-filling start gear = record {
-  bytes = λ row. row;
-  step = λ row k. setGear row (start + k) gear;
-  place = λ k. 2 * (start + k);
-  new = λ row k. gear;
-  stores = λ row k. refl;
-  apart = λ j k e. omega arith;
-}
-
-module _ (row : List ℕ) (start gear count : ℕ) where
-  fill-length : length (filled row start gear count) ≡ length row
-  fill-length = stores-length (filling start gear) row count
-
-  fill-in : (k : ℕ) → start ≤ k → k < start + count → 2 * k < length row → gearAt (filled row start gear count) k ≡ gear
-  fill-in k h l room =
-      let same : k ≡ start + (k - start) = omega arith in
-      ap (gearAt (filled row start gear count)) same
-      ∙ stored (filling start gear) row count (k - start) (omega arith) (omega arith)
-
-  fill-before : (k : ℕ) → k < start → gearAt (filled row start gear count) k ≡ gearAt row k
-  fill-before k l = not-stored (filling start gear) (2 * k) (λ j (e : 2 * k ≡ 2 * (start + j)). omega arith) row count
-
-  fill-behind : (k : ℕ) → start + count ≤ k → gearAt (filled row start gear count) k ≡ gearAt row k
-  fill-behind k l =
-      let same : k ≡ start + (k - start) = omega arith in
-      ap (gearAt (filled row start gear count)) same
-      ∙ not-yet (filling start gear) row count (k - start) (omega arith)
-      ∙ ap (gearAt row) (sym same)
 
 -- what a run has that takes the gear beside it
 record Taken (trace row : List ℕ) (n start end : ℕ) : Type 0 where

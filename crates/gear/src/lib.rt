@@ -15,7 +15,7 @@ ghost use Rattle.gear.specs.Own.{ownSecond, judgeClose, putOwn, Ready};
 ghost use Rattle.gear.specs.Sheet.{rowFrom, judgeSheet, gearAnswer, ifAccepted, withRow, gearBuffer};
 
 // The gear that a second's speed gives; a stop second is compared with nothing.
-fn own_second(s: Shift, flags: u8, speed: u32) -> Own
+pub fn own_second(s: Shift, flags: u8, speed: u32) -> Own
     requires { ⌜ (Usable s) × (speed ≤ 2000) ⌝ }
     ensures { λ r. ⌜ r ≡ ownSecond s flags speed ⌝ }
 {

@@ -1,12 +1,15 @@
--- The end of a stop run, carried from second to second. Assumes nothing.
-use mathlib.Core.Path.{_≡_, refl, sym, _∙_}
+-- The end of a stop run, carried from second to second; the gear of its last second; and the row before corrections. Assumes nothing.
+use mathlib.Core.Path.{_≡_, refl, sym, ap, _∙_}
 use mathlib.Core.Bool.{Bool, true, false}
 use mathlib.Core.List.{List}
-use Prim.Native.Nat.{ℕ, _+_, _<_}
+use Prim.Native.Nat.{ℕ, _+_, _-_, _<_}
+use native.Mathlib.Decide.{decLt}
 use native.Mathlib.Omega.{arith}
-use Rattle.walk.proofs.Walk.{scan-on, scan-out}
+use Rattle.walk.proofs.Walk.{scan-on, scan-out, scan-done}
+use Rattle.walk.proofs.Pairs.{pairs-at}
 use Rattle.trace.specs.House.{stopAt}
-use Rattle.phase.specs.Phase.{stopEnd, Carried}
+use Rattle.phase.specs.Phase.{stopEnd, stopGear, firstGear, firstRow, Carried}
+use Rattle.row.specs.Row.{gearAt}
 
 -- before the first second nothing is known
 pub carried-none : (trace : List ℕ) (n : ℕ) → Carried trace n 0 0
@@ -21,3 +24,19 @@ carried-next trace n k end h e = record { known = go (stopAt trace k) refl }
     go false s l =
         let here : stopEnd trace n k ≡ k = scan-out (stopAt trace) (λ i. i) (λ i. i) n k h s in
         absurd (let f : ⊥ = omega (arith, here, e) in f)
+
+-- the last second of a stop run
+pub last-gear : (trace : List ℕ) (n k : ℕ) → k < n → stopAt trace k ≡ true → (k + 1 < n → stopAt trace (k + 1) ≡ false) → stopGear (stopEnd trace n k - k) ≡ 1
+last-gear trace n k l halt next =
+    let ends : stopEnd trace n k ≡ k + 1 = scan-on (stopAt trace) (λ i. i) (λ i. i) n k l halt ∙ go (decLt (k + 1) n) in
+    let one : stopEnd trace n k - k ≡ 1 = omega (arith, ends) in
+    ap stopGear one
+  where
+    go : Dec (k + 1 < n) → stopEnd trace n (k + 1) ≡ k + 1
+    go (yes below) = scan-out (stopAt trace) (λ i. i) (λ i. i) n (k + 1) below (next below)
+    go (no above) = scan-done (stopAt trace) (λ i. i) (λ i. i) n (k + 1) (omega arith)
+
+-- the row before corrections
+pub first-at : (own : ℕ → ℕ) (trace : List ℕ) (n k : ℕ) → k < n → gearAt (firstRow own trace n) k ≡ firstGear own trace n k
+unfolding firstRow
+first-at own trace n k l = pairs-at (firstGear own trace n) (λ k. 0) n k l .0

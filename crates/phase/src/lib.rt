@@ -61,7 +61,7 @@ pub fn first_row(trace: &[u8], own: &[u8], row: &mut [u8], n: usize)
     }
 }
 
-fn clutch_of(flags: u8, speed: usize) -> u8
+pub fn clutch_of(flags: u8, speed: usize) -> u8
     ensures { λ r. ⌜ r ≡ clutchOf flags speed ⌝ }
 {
     if flags % 4 == 0 {

@@ -6,7 +6,7 @@ ghost use Rattle.row.specs.Row.{Room};
 ghost use Rattle.row.specs.Corrections.{capped, capAfter, capRuns, notFirst, ruled, passBy};
 
 // A deceleration second takes the smaller of its own gear and the cap.
-fn capped(flags: u8, cap: u8, own: u8) -> u8
+pub fn capped(flags: u8, cap: u8, own: u8) -> u8
     ensures { λ r. ⌜ r ≡ capped flags cap own ⌝ }
 {
     if flags % 4 == 3 {
@@ -17,7 +17,7 @@ fn capped(flags: u8, cap: u8, own: u8) -> u8
 }
 
 // The cap of the next second. 255 stands for no cap: no byte is above it, so the smaller of it and a gear is the gear.
-fn cap_after(flags: u8, cap: u8, own: u8) -> u8
+pub fn cap_after(flags: u8, cap: u8, own: u8) -> u8
     ensures { λ r. ⌜ r ≡ capAfter flags cap own ⌝ }
 {
     if flags % 4 == 1 {
@@ -79,7 +79,7 @@ fn one_step(before: u8, own: u8) -> u8
 }
 
 // The gear that a rule gives a second with the gear `own`, after one with the flags `former` and the gear `before`.
-fn ruled(rule: Rule, first: bool, former: u8, flags: u8, before: u8, own: u8) -> u8
+pub fn ruled(rule: Rule, first: bool, former: u8, flags: u8, before: u8, own: u8) -> u8
     ensures { λ r. ⌜ r ≡ ruled rule first former flags before own ⌝ }
 {
     if flags % 4 == 0 {

@@ -2,3 +2,4 @@ pub mod Runs
 pub mod Fuel
 pub mod Frame
 pub mod Examples
+pub mod Fills

@@ -1,1 +1,4 @@
 pub mod Walk
+pub mod Stores
+pub mod Pairs
+pub mod Ends

@@ -1,42 +1,19 @@
--- The row before corrections, and what corrections 1 to 5 make of it, second by second: each second is changed once, at its turn, from its own gear and
--- from the gear that the second before it is left with. Assumes nothing.
+-- What corrections 1 to 5 make of a row, second by second: each second is changed once, at its turn, from its own gear and from the gear that the second
+-- before it is left with. Assumes nothing.
 use mathlib.Core.Path.{_≡_, refl, sym, ap, _∙_}
 use mathlib.Core.Bool.{true, false}
-use mathlib.Core.List.{List, [], _∷_}
+use mathlib.Core.List.{List}
 use Prim.Native.Nat.{ℕ, zero, suc, _-_, _*_, _≤_, _<_}
-use native.Mathlib.Decide.{decLt}
 use native.Mathlib.Omega.{arith}
 use borrow.Author.Tests.{ne-eqb}
 use lib.Dec.{eqb}
-use lib.ListN.{length, getD, List·getD-append}
-use lib.Seq.{getD-at}
-use Rattle.walk.specs.Walk.{inTurn, pairs}
-use Rattle.walk.proofs.Walk.{pairs-length}
+use lib.ListN.{length}
+use Rattle.walk.specs.Walk.{inTurn}
+use Rattle.walk.proofs.Stores.{Storing, stores-length, not-yet, stored}
 use Rattle.trace.specs.House.{flagsAt}
 use Rattle.row.specs.declared.Rule.{Rule}
 use Rattle.row.specs.Row.{gearAt}
 use Rattle.row.specs.Corrections.{uncapped, capped, capAfter, capStep, capRuns, ruled, ruleStep, passBy}
-use Rattle.phase.specs.Phase.{firstGear, firstRow}
-use Rattle.claims.proofs.Stores.{Storing, stores-length, not-yet, stored}
-
--- ---- the row before corrections
-module _ (one other : ℕ → ℕ) where
-  last-pair : (n k : ℕ) → Dec (k < n) → k < suc n → (k < n → getD (pairs one other n) (2 * k) 0 ≡ one k)
-      → getD (pairs one other (suc n)) (2 * k) 0 ≡ one k
-  last-pair n k (yes below) l earlier =
-      let long : length (pairs one other n) ≡ 2 * n = pairs-length one other n in
-      List·getD-append (pairs one other n) (one n ∷ other n ∷ []) 0 (2 * k) (omega (arith, long)) ∙ earlier below
-  last-pair n k (no above) l earlier =
-      let same : k ≡ n = omega arith in
-      rw same (getD-at (pairs one other n) (one n) (other n ∷ []) 0 (2 * n) (pairs-length one other n))
-
-  pairs-at : (n k : ℕ) → k < n → getD (pairs one other n) (2 * k) 0 ≡ one k
-  pairs-at zero k l = absurd (omega arith)
-  pairs-at (suc n) k l = last-pair n k (decLt k n) l (λ below. pairs-at n k below)
-
-pub first-at : (own : ℕ → ℕ) (trace : List ℕ) (n k : ℕ) → k < n → gearAt (firstRow own trace n) k ≡ firstGear own trace n k
-unfolding firstRow
-first-at own trace n k l = pairs-at (firstGear own trace n) (λ k. 0) n k l
 
 -- ---- correction 1
 abbrev capping : List ℕ → Storing (List ℕ × ℕ)
