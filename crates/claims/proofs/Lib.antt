@@ -1,5 +1,5 @@
-pub mod Coincide
 pub mod Unique
+pub mod Checks
 pub mod Table
 pub mod Accepted
 pub mod Gases
@@ -7,6 +7,7 @@ pub mod Stages
 pub mod Contained
 pub mod Verdicts
 pub mod Figures
+pub mod Crossing
 pub mod Rows
 pub mod Seconds
 pub mod Smoothing

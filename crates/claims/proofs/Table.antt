@@ -1,160 +1,245 @@
--- No core that refuses everything, or nothing: an answer is the table's first failing check, and accepted where none fails. Assumes nothing.
-use mathlib.Core.Path.{_≡_, refl, sym, ap, _∙_}
+-- No core that refuses everything, or nothing: what is given is the first line of 01's table that fails, and accepted where none fails. The core's checks,
+-- in the order in which it makes them, are the table's lines, and along the table no number falls. Assumes nothing.
+use mathlib.Core.Path.{_≡_, refl, sym, ap, subst, _∙_}
 use mathlib.Core.Logic.{inl, inr}
-use mathlib.Core.Bool.{Bool, true, false, not, cond, _&&_}
-use mathlib.Core.List.{List, [], _∷_, _++_, append-assoc}
-use Prim.Native.Nat.{ℕ, zero, suc, _+_, _-_, _*_}
+use mathlib.Core.Bool.{Bool, true, false, cond, _&&_, _||_, or-true, false≢true}
+use mathlib.Core.List.{List, [], _∷_, _++_, append-assoc, append-nil}
+use Prim.Native.Nat.{ℕ, zero, suc, _+_, _-_, _*_, _≤_}
 use native.Mathlib.Omega.{arith}
-use lib.ListN.{length}
-use lib.Dec.{eqb, leb}
+use lib.Dec.{eqb, leb, ltb}
+use borrow.Author.Tests.{lt-ltb, ltb-true, eqb-true, eq-eqb}
 use Rattle.refusal.specs.declared.Refusal.{Refusal}
-use Rattle.refusal.specs.declared.Refusal.the-variants.{Header, Count, Length, Second, PowerToMass, Room, TooClose}
 use Rattle.refusal.specs.declared.Judged.{Judged}
 use Rattle.refusal.specs.declared.Judged.the-variants.{Accepted, Refused}
-use Rattle.refusal.specs.Judging.{checked, Check, checkedAll, judgedBy, andThen}
-use Rattle.refusal.proofs.Judging.{AllHold, checkedAll-append, checkedAll-then, judged-holds, refused-not}
-use Rattle.walk.specs.Walk.{scan}
+use Rattle.refusal.specs.Judging.{checked, Check, judgedBy}
 use Rattle.vehicle.specs.declared.VehicleSheet.{VehicleSheet}
-use Rattle.trace.specs.House.{headed, countOf}
-use Rattle.trace.specs.Judging.{countable, secondGood, judgeTrace}
-use Rattle.vehicle.specs.Sheet.{engineChecks, gearGood, gearRefusal, mild, judgeVehicle}
-use Rattle.shift.specs.Speeds.{shiftOf}
-use Rattle.gear.specs.Own.{ownAt}
-use Rattle.gear.specs.Sheet as gears
+use Rattle.trace.specs.House.{countOf}
+use Rattle.trace.specs.Judging.{judgePair}
 use Rattle.gear.specs.Sheet.{gearAnswer}
+use Rattle.stage.specs.Part.{humidityGood}
 use Rattle.bag.specs.declared.BagSheet.{BagSheet}
-use Rattle.bag.specs.Sheet.{messageChecks, readingChecks, ofThird, judgeSheet}
-use Rattle.bag.specs.declared.Part.{Part}
-use Rattle.part.specs.declared.Sides.{Sides}
-use Rattle.part.specs.declared.PartRead.{PartRead}
-use Rattle.part.specs.declared.PartRead.the-variants as partRead
-use Rattle.part.specs.Read.{readPart, judgedPart}
-use Rattle.part.proofs.Read.{part-judged}
+use Rattle.bag.specs.Sheet.{testChecks, valueChecks, sheetChecks, messageChecks, readingChecks}
 use Rattle.emission.specs.declared.Read.{Read}
 use Rattle.emission.specs.declared.Read.the-variants as read
 use Rattle.emission.specs.declared.Answer.{Answer}
-use Rattle.emission.specs.declared.Answer.the-variants.{Result}
 use Rattle.emission.specs.declared.Answer.the-variants as answer
-use Rattle.emission.specs.Test.{nothing, readThird, onPart, readIn, onRead, judgeLate, handUp, readAnswer, testAnswer}
-use Rattle.claims.specs.Table.{FirstFails, check, each, gearChecks, lateOn, emissionChecks}
+use Rattle.emission.specs.Test.{readIn, lateChecks, testAnswer}
+use Rattle.boundary.specs.declared.Outcome.{Outcome}
+use Rattle.boundary.specs.Outcome.{outcomeOf}
+use Rattle.boundary.specs.Sheet.{withNothing, resultOut}
+use Rattle.claims.specs.Table.{Line, outcome, plain, placed, lines, accepted, firstOf, AllHold, FirstFails, Exactly, notAfter, rising}
+use Rattle.claims.specs.Table.{ratioLine, fallLine, closeLine, traceTable, pairTable, gearTable, emissionTable}
+use Rattle.claims.proofs.Checks.{check, each, pairChecks, pair-judged, gearChecks, gear-judged, judgedAnswer, emissionChecks, emission-judged}
 
--- ---- a list of checks
-same-refusal : {a b : Refusal} → Refused a ≡ Refused b → a ≡ b
-same-refusal e = cc
+-- ---- a list of lines
+-- every line has a number, so that what it gives is no zeros
+abbrev Numbered : List Line → Type 0
+Numbered [] = Unit {0}
+Numbered (l ∷ ls) = (1 ≤ l .gives .number) × Numbered ls
 
--- refused exactly where a check fails, and as the first of them says
-first-by : (c : Check) (cs : List Check) {refusal : Refusal} → (judgedBy cs ≡ Refused refusal → FirstFails cs refusal) → (b : Bool) → c .holds ≡ b → checked b (c .refusal) (judgedBy cs) ≡ Refused refusal → FirstFails (c ∷ cs) refusal
-first-by c cs later true h e = inr (h, later e)
-first-by c cs later false h e = inl (h, same-refusal e)
+refused-first : (ls : List Line) (e : Outcome) → 1 ≤ e .number → firstOf ls ≡ e → FirstFails ls e
+refused-first [] e some is = absurd (let none : 0 ≡ e .number = ap (λ (o : Outcome). o .number) is in let z : ⊥ = omega arith in z)
+refused-first (l ∷ ls) e some is = go (l .holds) refl is (refused-first ls e some)
+  where
+    go : (b : Bool) → l .holds ≡ b → cond b (firstOf ls) (l .gives) ≡ e → (firstOf ls ≡ e → FirstFails ls e) → FirstFails (l ∷ ls) e
+    go true h is later = inr (h, later is)
+    go false h is later = inl (h, is)
 
-pub refused-first : (cs : List Check) {refusal : Refusal} → judgedBy cs ≡ Refused refusal → FirstFails cs refusal
-refused-first [] e = absurd (refused-not (sym e))
-refused-first (c ∷ cs) e = first-by c cs (refused-first cs) (c .holds) refl e
+first-refused : (ls : List Line) (e : Outcome) → FirstFails ls e → firstOf ls ≡ e
+first-refused [] e f = absurd f
+first-refused (l ∷ ls) e (inl f) = ap (λ (b : Bool). cond b (firstOf ls) (l .gives)) (f .0) ∙ f .1
+first-refused (l ∷ ls) e (inr f) = ap (λ (b : Bool). cond b (firstOf ls) (l .gives)) (f .0) ∙ first-refused ls e (f .1)
 
-pub first-refused : (cs : List Check) {refusal : Refusal} → FirstFails cs refusal → judgedBy cs ≡ Refused refusal
-first-refused [] f = absurd f
-first-refused (c ∷ cs) (inl f) = ap (λ (b : Bool). checked b (c .refusal) (judgedBy cs)) (f .0) ∙ ap Refused (f .1)
-first-refused (c ∷ cs) (inr f) = ap (λ (b : Bool). checked b (c .refusal) (judgedBy cs)) (f .0) ∙ first-refused cs (f .1)
+accepted-all : (ls : List Line) → Numbered ls → firstOf ls .number ≡ 0 → AllHold ls
+accepted-all [] some is = tt
+accepted-all (l ∷ ls) some is = go (l .holds) refl is (accepted-all ls (some .1))
+  where
+    go : (b : Bool) → l .holds ≡ b → cond b (firstOf ls) (l .gives) .number ≡ 0 → (firstOf ls .number ≡ 0 → AllHold ls) → AllHold (l ∷ ls)
+    go true h is later = (h, later is)
+    go false h is later = absurd (let z : ⊥ = omega (arith, some .0) in z)
 
--- accepted exactly where all hold
-pub accepted-all : (cs : List Check) → judgedBy cs ≡ Accepted → AllHold cs
-accepted-all cs e = judged-holds cs e
-
-pub all-accepted : (cs : List Check) → AllHold cs → judgedBy cs ≡ Accepted
+all-accepted : (ls : List Line) → AllHold ls → firstOf ls ≡ accepted
 all-accepted [] h = refl
-all-accepted (c ∷ cs) h = ap (λ (b : Bool). checked b (c .refusal) (judgedBy cs)) (h .0) ∙ all-accepted cs (h .1)
+all-accepted (l ∷ ls) h = ap (λ (b : Bool). cond b (firstOf ls) (l .gives)) (h .0) ∙ all-accepted ls (h .1)
 
--- ---- stages and searches as lists of checks
-then-list : (cs ds : List Check) → andThen (judgedBy cs) (judgedBy ds) ≡ judgedBy (cs ++ ds)
-then-list cs ds = sym (checkedAll-append cs ds Accepted ∙ checkedAll-then cs (judgedBy ds))
+decides : (ls : List Line) → Numbered ls → Exactly (firstOf ls) ls
+decides ls some =
+    record {
+      refused = refused-first ls;
+      refuses = first-refused ls;
+      accepted = accepted-all ls some;
+      accepts = λ h. ap (λ (o : Outcome). o .number) (all-accepted ls h);
+    }
 
-scan-each : (good : ℕ → Bool) (refusal : ℕ → Refusal) (k n : ℕ) → scan good (λ i. Refused (refusal i)) (λ i. Accepted) k n ≡ judgedBy (each good refusal k n)
-scan-each good refusal k zero = refl
-scan-each good refusal k (suc n) = ap (λ (j : Judged). cond (good k) j (Refused (refusal k))) (scan-each good refusal (k + 1) n) ∙ by (good k) (refusal k) _
+-- ---- the core's checks as lines
+abbrev lineOf : Check → Line
+lineOf c = record { holds = c .holds; gives = outcomeOf (Refused (c .refusal)) }
+
+abbrev linesOf : List Check → List Line
+linesOf [] = []
+linesOf (c ∷ cs) = lineOf c ∷ linesOf cs
+
+-- what a list of checks says, as it is given out
+given-first : (cs : List Check) → outcomeOf (judgedBy cs) ≡ firstOf (linesOf cs)
+given-first [] = refl
+given-first (c ∷ cs) = go (c .holds) (given-first cs)
   where
-    by : (b : Bool) (r : Refusal) (rest : Judged) → cond b rest (Refused r) ≡ checked b r rest
-    by true r rest = refl
-    by false r rest = refl
+    go : (b : Bool) → outcomeOf (judgedBy cs) ≡ firstOf (linesOf cs)
+        → outcomeOf (checked b (c .refusal) (judgedBy cs)) ≡ cond b (firstOf (linesOf cs)) (outcomeOf (Refused (c .refusal)))
+    go true later = later
+    go false later = refl
 
--- ---- the gear sheet's answer is the table's, 1 to 9
-flat : (t e f g m r c : List Check) → andThen (andThen (judgedBy t) (andThen (andThen (judgedBy e) (andThen (judgedBy f) (andThen (judgedBy g) (judgedBy m)))) (judgedBy r))) (judgedBy c) ≡ judgedBy (t ++ (e ++ (f ++ (g ++ (m ++ (r ++ c))))))
-flat t e f g m r c = simp (then-list, append-assoc)
+lines-append : (cs ds : List Check) → linesOf (cs ++ ds) ≡ linesOf cs ++ linesOf ds
+lines-append [] ds = refl
+lines-append (c ∷ cs) ds = ap (λ (ls : List Line). lineOf c ∷ ls) (lines-append cs ds)
 
-pub gear-table : (trace : List ℕ) (v : VehicleSheet) (room start : ℕ) → gearAnswer trace v room start ≡ judgedBy (gearChecks trace v room start)
-unfolding gearAnswer gears.judgeSheet judgeTrace judgeVehicle
-gear-table trace v room start =
-    let n = countOf trace in
-    let heads = check (headed trace) Header ∷ check (countable n) Count ∷ check (eqb (length trace) (8 + 4 * n)) Length ∷ [] in
-    let seconds = each (secondGood trace) (λ k. Second (k + 1)) 0 n in
-    let ratios = each (gearGood false (v .ndv)) (gearRefusal false) 0 (v .gears) in
-    let falls = each (gearGood true (v .ndv)) (gearRefusal true) 0 (v .gears - 1) in
-    let last = check (mild v) PowerToMass ∷ [] in
-    let space = check (leb start room && leb (2 * n) (room - start)) Room ∷ [] in
-    let close = each (λ k. not (ownAt (shiftOf v) trace k .close)) (λ k. TooClose (k + 1)) 0 n in
-    let t = ap (checkedAll heads) (scan-each (secondGood trace) (λ k. Second (k + 1)) 0 n) ∙ sym (checkedAll-append heads seconds Accepted) in
-    let f = scan-each (gearGood false (v .ndv)) (gearRefusal false) 0 (v .gears) in
-    let g = scan-each (gearGood true (v .ndv)) (gearRefusal true) 0 (v .gears - 1) in
-    let c = scan-each (λ k. not (ownAt (shiftOf v) trace k .close)) (λ k. TooClose (k + 1)) 0 n in
-    (λ i. andThen (andThen (t i) (andThen (andThen (judgedBy (engineChecks v)) (andThen (f i) (andThen (g i) (judgedBy last)))) (judgedBy space))) (c i))
-    ∙ flat (heads ++ seconds) (engineChecks v) ratios falls last space close
+lines-each : (good : ℕ → Bool) (refusal : ℕ → Refusal) (k n : ℕ)
+    → linesOf (each good refusal k n) ≡ lines (λ i. lineOf (check (good i) (refusal i))) k n
+lines-each good refusal k zero = refl
+lines-each good refusal k (suc n) = ap (λ (ls : List Line). lineOf (check (good k) (refusal k)) ∷ ls) (lines-each good refusal (k + 1) n)
 
--- ---- the emission sheet's answer is the table's, 10 to 14
-abbrev judgedRead : Read → Judged
-judgedRead (read.Units readings) = Accepted
-judgedRead (read.Refused refusal) = Refused refusal
+lines-third : (b : Bool) (cs : List Check) → linesOf (cond b cs []) ≡ cond b (linesOf cs) []
+lines-third true cs = refl
+lines-third false cs = refl
 
-abbrev judgedAnswer : Answer → Judged
-judgedAnswer (Result result) = Accepted
-judgedAnswer (answer.Refused refusal) = Refused refusal
+-- ---- in order
+both : {a b : Bool} → a ≡ true → b ≡ true → (a && b) ≡ true
+both p q = rw (p, q)
 
-on-part : (p : PartRead) (next : Sides → Read) (rest : Judged) → ((sides : Sides) → judgedRead (next sides) ≡ rest) → judgedRead (onPart p next) ≡ andThen (judgedPart p) rest
-on-part (partRead.Units sides) next rest h = h sides
-on-part (partRead.Refused refusal) next rest h = refl
+-- a place of the same number further on
+further : (number a b : ℕ) → suc a ≤ b → notAfter (outcome number a 0 0) (outcome number b 0 0) ≡ true
+further number a b h = rw (eq-eqb number number refl, lt-ltb a b h) (or-true (ltb number number))
 
-third-judged : (class : ℕ) (third : Part) → judgedPart (readThird class third) ≡ judgedBy (ofThird class (readingChecks 3 third))
-unfolding readThird
-third-judged class third = go (eqb class 3)
+-- places that count on, and what comes after them
+rising-lines : (good : ℕ → Bool) (number d k n : ℕ) (last : Outcome) (rest : List Line)
+    → notAfter last (outcome number (k + d) 0 0) ≡ true → rising last rest ≡ true → ((a : ℕ) → rising (outcome number a 0 0) rest ≡ true)
+    → rising last (lines (λ i. placed number (i + d) (good i)) k n ++ rest) ≡ true
+rising-lines good number d k zero last rest first now later = now
+rising-lines good number d k (suc n) last rest first now later =
+    both first
+    (rising-lines good number d (k + 1) n (outcome number (k + d) 0 0) rest (further number (k + d) (k + 1 + d) (omega arith)) (later (k + d)) later)
+
+-- and where nothing comes after them
+rising-last : (good : ℕ → Bool) (number d n : ℕ) (last : Outcome) → notAfter last (outcome number (0 + d) 0 0) ≡ true
+    → rising last (lines (λ i. placed number (i + d) (good i)) 0 n) ≡ true
+rising-last good number d n last first =
+    subst (λ (ls : List Line). rising last ls ≡ true) (append-nil (lines (λ i. placed number (i + d) (good i)) 0 n))
+    (rising-lines good number d 0 n last [] first refl (λ a. refl))
+
+-- numbers that do not fall begin at 1, and so every line has one
+number-kept : (e f : Outcome) → 1 ≤ e .number → notAfter e f ≡ true → 1 ≤ f .number
+number-kept e f some is = go (ltb (e .number) (f .number)) refl (eqb (e .number) (f .number)) refl _ is
   where
-    go : (b : Bool) → judgedPart (cond b (readPart 3 third) (partRead.Units (record { bag = nothing; air = nothing }))) ≡ judgedBy (cond b (readingChecks 3 third) [])
-    go true = part-judged 3 third
-    go false = refl
+    go : (a : Bool) → ltb (e .number) (f .number) ≡ a → (b : Bool) → eqb (e .number) (f .number) ≡ b → (c : Bool) → (a || b && c) ≡ true → 1 ≤ f .number
+    go true less b same c is = omega (arith, ltb-true)
+    go false less true same c is = omega (arith, eqb-true)
+    go false less false same c is = absurd (false≢true is)
 
-then-nothing : (j : Judged) → andThen j Accepted ≡ j
-then-nothing Accepted = refl
-then-nothing (Refused refusal) = refl
+rising-numbered : (last : Outcome) (ls : List Line) → 1 ≤ last .number → rising last ls ≡ true → Numbered ls
+rising-numbered last [] some is = tt
+rising-numbered last (l ∷ ls) some is =
+    let two = parts (notAfter last (l .gives)) (rising (l .gives) ls) is in
+    let here = number-kept last (l .gives) some (two .0) in
+    (here, rising-numbered (l .gives) ls here (two .1))
+  where
+    parts : (a b : Bool) → (a && b) ≡ true → (a ≡ true) × (b ≡ true)
+    parts true b e = (refl, e)
+    parts false b e = absurd (false≢true e)
 
-read-judged : (s : BagSheet) → judgedRead (readIn s) ≡ judgedBy (messageChecks s)
-unfolding readIn messageChecks
-read-judged s =
-    on-part (readPart 1 (s .first)) _ _ (λ first. on-part (readPart 2 (s .second)) _ _ (λ second. on-part (readThird (s .class) (s .third)) _ _ (λ third. refl)))
-    ∙ simp (then-nothing, part-judged, third-judged, then-list)
+numbered-append : (ls ms : List Line) → Numbered ls → Numbered ms → Numbered (ls ++ ms)
+numbered-append [] ms p q = q
+numbered-append (l ∷ ls) ms p q = (p .0, numbered-append ls ms (p .1) q)
 
-hand-judged : (j : Judged) (next : Answer) → judgedAnswer (handUp j next) ≡ andThen j (judgedAnswer next)
-hand-judged Accepted next = refl
-hand-judged (Refused refusal) next = refl
+-- ---- a pair of traces
+pub trace-rising : (trace : List ℕ) → rising (outcome 1 0 0 0) (traceTable trace) ≡ true
+trace-rising trace = rising-last _ 4 1 (countOf trace) (outcome 3 0 0 0) refl
 
-late-judged : (s : BagSheet) (x : Read) → judgedAnswer (onRead x (readAnswer s)) ≡ andThen (judgedRead x) (judgedBy (lateOn s x))
-unfolding readAnswer
-late-judged s (read.Units readings) = hand-judged (judgeLate s readings) _ ∙ then-nothing (judgeLate s readings)
-late-judged s (read.Refused refusal) = refl
+pair-lines : (normal reduced : List ℕ) → linesOf (pairChecks normal reduced) ≡ pairTable normal reduced
+pair-lines normal reduced = simp (lines-append, lines-each)
 
-pub emission-table : (s : BagSheet) → judgedAnswer (testAnswer s) ≡ judgedBy (emissionChecks s)
-unfolding testAnswer
-emission-table s = hand-judged (judgeSheet s) _ ∙ simp (late-judged, read-judged, then-list)
+pub pair-table : (normal reduced : List ℕ) → outcomeOf (judgePair normal reduced) ≡ firstOf (pairTable normal reduced)
+pair-table normal reduced =
+    ap outcomeOf (pair-judged normal reduced) ∙ given-first (pairChecks normal reduced) ∙ ap firstOf (pair-lines normal reduced)
 
--- ---- so, for each sheet: refused with a number and place exactly where that row's condition holds and none before it does
-module _ (trace : List ℕ) (v : VehicleSheet) (room start : ℕ) {refusal : Refusal} where
-  pub gear-refused-exactly : (gearAnswer trace v room start ≡ Refused refusal → FirstFails (gearChecks trace v room start) refusal) × (FirstFails (gearChecks trace v room start) refusal → gearAnswer trace v room start ≡ Refused refusal)
-  gear-refused-exactly =
-      let table = gear-table trace v room start in
-      (λ e. refused-first (gearChecks trace v room start) (sym table ∙ e), λ f. table ∙ first-refused (gearChecks trace v room start) f)
+pub pair-exactly : (normal reduced : List ℕ) → Exactly (outcomeOf (judgePair normal reduced)) (pairTable normal reduced)
+pair-exactly normal reduced =
+    let last = numbered-append (traceTable reduced) (plain 15 (eqb (countOf normal) (countOf reduced)) ∷ []) (alone reduced) (omega arith, tt) in
+    rw pair-table (decides (pairTable normal reduced) (numbered-append (traceTable normal) _ (alone normal) last))
+  where
+    alone : (trace : List ℕ) → Numbered (traceTable trace)
+    alone trace = rising-numbered (outcome 1 0 0 0) (traceTable trace) (omega arith) (trace-rising trace)
 
-refused-answer : (a : Answer) {refusal : Refusal} → judgedAnswer a ≡ Refused refusal → a ≡ answer.Refused refusal
-refused-answer (Result result) e = absurd (let z : _≡_ {A = ℕ} 0 1 = cc in let f : ⊥ = omega arith in f)
-refused-answer (answer.Refused refusal) e = cc
+-- ---- the gear sheet
+module _ (trace : List ℕ) (v : VehicleSheet) (room start : ℕ) where
+  abbrev ratios : List Line
+  ratios = lines (ratioLine (v .ndv)) 0 (v .gears)
 
-module _ (s : BagSheet) {refusal : Refusal} where
-  pub emission-refused-exactly : (testAnswer s ≡ answer.Refused refusal → FirstFails (emissionChecks s) refusal) × (FirstFails (emissionChecks s) refusal → testAnswer s ≡ answer.Refused refusal)
-  emission-refused-exactly =
-      let table = emission-table s in
-      (λ e. refused-first (emissionChecks s) (sym table ∙ ap judgedAnswer e), λ f. refused-answer (testAnswer s) (table ∙ first-refused (emissionChecks s) f))
+  abbrev falls : List Line
+  falls = lines (fallLine (v .ndv)) 0 (v .gears - 1)
+
+  -- 7, and 8 and 9 behind it
+  abbrev seven : Line
+  seven = plain 7 (leb (19 * v .power) (150 * (v .mass + 75)))
+
+  abbrev behind : List Line
+  behind = plain 8 (leb start room && leb (2 * countOf trace) (room - start)) ∷ lines (closeLine v trace) 0 (countOf trace)
+
+  behind-rising : (a : ℕ) → rising (outcome 6 a 0 0) (seven ∷ behind) ≡ true
+  behind-rising a = rising-last _ 9 1 (countOf trace) (outcome 8 0 0 0) refl
+
+  falls-rising : (a : ℕ) → rising (outcome 5 a 0 0) (falls ++ (seven ∷ behind)) ≡ true
+  falls-rising a = rising-lines _ 6 2 0 (v .gears - 1) (outcome 5 a 0 0) (seven ∷ behind) refl (behind-rising a) behind-rising
+
+  ratios-rising : rising (outcome 5 5 0 0) ((ratios ++ (falls ++ (seven ∷ []))) ++ behind) ≡ true
+  ratios-rising =
+      simp append-assoc (rising-lines _ 5 6 0 (v .gears) (outcome 5 5 0 0) (falls ++ (seven ∷ behind)) refl (falls-rising 5) falls-rising)
+
+  pub gear-rising : rising (outcome 1 0 0 0) (gearTable trace v room start) ≡ true
+  gear-rising = rising-lines _ 4 1 0 (countOf trace) (outcome 3 0 0 0) _ refl ratios-rising (λ a. ratios-rising)
+
+  gear-lines : linesOf (gearChecks trace v room start) ≡ gearTable trace v room start
+  gear-lines = simp (lines-append, lines-each)
+
+  pub gear-table : outcomeOf (gearAnswer trace v room start) ≡ firstOf (gearTable trace v room start)
+  gear-table =
+      ap outcomeOf (gear-judged trace v room start) ∙ given-first (gearChecks trace v room start) ∙ ap firstOf gear-lines
+
+  pub gear-exactly : Exactly (outcomeOf (gearAnswer trace v room start)) (gearTable trace v room start)
+  gear-exactly =
+      rw gear-table
+      (decides (gearTable trace v room start) (rising-numbered (outcome 1 0 0 0) (gearTable trace v room start) (omega arith) gear-rising))
+
+-- ---- the emission sheet
+module _ (s : BagSheet) where
+  emission-lines : linesOf (emissionChecks s) ≡ emissionTable s
+  unfolding sheetChecks testChecks valueChecks messageChecks readingChecks lateChecks humidityGood
+  emission-lines = go (eqb (s .class) 3) refl (readIn s) refl
+    where
+      go : (b : Bool) → eqb (s .class) 3 ≡ b → (x : Read) → readIn s ≡ x → linesOf (emissionChecks s) ≡ emissionTable s
+      go true class (read.Units r) was = rw (was, class)
+      go true class (read.Refused refusal) was = rw (was, class)
+      go false class (read.Units r) was = rw (was, class)
+      go false class (read.Refused refusal) was = rw (was, class)
+
+  pub emission-rising : rising (outcome 10 0 0 0) (emissionTable s) ≡ true
+  emission-rising = go (eqb (s .class) 3) refl (readIn s) refl
+    where
+      go : (b : Bool) → eqb (s .class) 3 ≡ b → (x : Read) → readIn s ≡ x → rising (outcome 10 0 0 0) (emissionTable s) ≡ true
+      go true class (read.Units r) was = rw (was, class)
+      go true class (read.Refused refusal) was = rw (was, class)
+      go false class (read.Units r) was = rw (was, class)
+      go false class (read.Refused refusal) was = rw (was, class)
+
+  -- what stands beside the figures is the answer judged
+  given-out : (a : Answer) → resultOut a .outcome ≡ outcomeOf (judgedAnswer a)
+  unfolding withNothing
+  given-out (answer.Result result) = refl
+  given-out (answer.Refused refusal) = refl
+
+  pub emission-table : resultOut (testAnswer s) .outcome ≡ firstOf (emissionTable s)
+  emission-table =
+      given-out (testAnswer s) ∙ ap outcomeOf (emission-judged s) ∙ given-first (emissionChecks s) ∙ ap firstOf emission-lines
+
+  pub emission-exactly : Exactly (resultOut (testAnswer s) .outcome) (emissionTable s)
+  emission-exactly =
+      rw emission-table (decides (emissionTable s) (rising-numbered (outcome 10 0 0 0) (emissionTable s) (omega arith) emission-rising))

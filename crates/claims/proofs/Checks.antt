@@ -1,0 +1,175 @@
+-- Each answer as a list of checks, in the order in which the core makes them: the first that fails names the refusal. Assumes nothing.
+use mathlib.Core.Path.{_≡_, refl, sym, ap, _∙_}
+use mathlib.Core.Bool.{Bool, true, false, not, cond, _&&_}
+use mathlib.Core.List.{List, [], _∷_, _++_, append-assoc}
+use Prim.Native.Nat.{ℕ, zero, suc, _+_, _-_, _*_}
+use lib.ListN.{length}
+use lib.Dec.{eqb, leb}
+use Rattle.refusal.specs.declared.Refusal.{Refusal}
+use Rattle.refusal.specs.declared.Refusal.the-variants.{Header, Count, Length, Second, PowerToMass, Room, TooClose, PairCounts}
+use Rattle.refusal.specs.declared.Judged.{Judged}
+use Rattle.refusal.specs.declared.Judged.the-variants.{Accepted, Refused}
+use Rattle.refusal.specs.Judging.{checked, Check, checkedAll, judgedBy, andThen}
+use Rattle.refusal.proofs.Judging.{checkedAll-append, checkedAll-then}
+use Rattle.walk.specs.Walk.{scan}
+use Rattle.vehicle.specs.declared.VehicleSheet.{VehicleSheet}
+use Rattle.trace.specs.House.{headed, countOf}
+use Rattle.trace.specs.Judging.{countable, secondGood, judgeTrace, judgePair}
+use Rattle.vehicle.specs.Sheet.{engineChecks, gearGood, gearRefusal, mild, judgeVehicle}
+use Rattle.shift.specs.Speeds.{shiftOf}
+use Rattle.gear.specs.Own.{ownAt}
+use Rattle.gear.specs.Sheet as gears
+use Rattle.gear.specs.Sheet.{gearAnswer}
+use Rattle.bag.specs.declared.BagSheet.{BagSheet}
+use Rattle.bag.specs.Sheet.{sheetChecks, messageChecks, readingChecks, ofThird, judgeSheet}
+use Rattle.bag.specs.declared.Part.{Part}
+use Rattle.part.specs.declared.Sides.{Sides}
+use Rattle.part.specs.declared.PartRead.{PartRead}
+use Rattle.part.specs.declared.PartRead.the-variants as partRead
+use Rattle.part.specs.Read.{readPart, judgedPart}
+use Rattle.part.proofs.Read.{part-judged}
+use Rattle.emission.specs.declared.Read.{Read}
+use Rattle.emission.specs.declared.Read.the-variants as read
+use Rattle.emission.specs.declared.Answer.{Answer}
+use Rattle.emission.specs.declared.Answer.the-variants.{Result}
+use Rattle.emission.specs.declared.Answer.the-variants as answer
+use Rattle.emission.specs.Test.{nothing, readThird, onPart, readIn, onRead, lateChecks, judgeLate, handUp, readAnswer, testAnswer}
+
+-- ---- stages and searches as lists of checks
+abbrev pub check : Bool → Refusal → Check
+check holds refusal = record { holds = holds; refusal = refusal }
+
+-- one check for each of n places from k on
+abbrev pub each : (ℕ → Bool) → (ℕ → Refusal) → ℕ → ℕ → List Check
+each holds refusal k zero = []
+each holds refusal k (suc n) = check (holds k) (refusal k) ∷ each holds refusal (k + 1) n
+
+then-list : (cs ds : List Check) → andThen (judgedBy cs) (judgedBy ds) ≡ judgedBy (cs ++ ds)
+then-list cs ds = sym (checkedAll-append cs ds Accepted ∙ checkedAll-then cs (judgedBy ds))
+
+scan-each : (good : ℕ → Bool) (refusal : ℕ → Refusal) (k n : ℕ)
+    → scan good (λ i. Refused (refusal i)) (λ i. Accepted) k n ≡ judgedBy (each good refusal k n)
+scan-each good refusal k zero = refl
+scan-each good refusal k (suc n) =
+    ap (λ (j : Judged). cond (good k) j (Refused (refusal k))) (scan-each good refusal (k + 1) n) ∙ by (good k) (refusal k) _
+  where
+    by : (b : Bool) (r : Refusal) (rest : Judged) → cond b rest (Refused r) ≡ checked b r rest
+    by true r rest = refl
+    by false r rest = refl
+
+-- ---- a trace, 1 to 4, and a pair
+abbrev heads : List ℕ → List Check
+heads trace =
+    check (headed trace) Header
+    ∷ check (countable (countOf trace)) Count
+    ∷ check (eqb (length trace) (8 + 4 * countOf trace)) Length
+    ∷ []
+
+abbrev pub traceChecks : List ℕ → List Check
+traceChecks trace = heads trace ++ each (secondGood trace) (λ k. Second (k + 1)) 0 (countOf trace)
+
+trace-judged : (trace : List ℕ) → judgeTrace trace ≡ judgedBy (traceChecks trace)
+unfolding judgeTrace
+trace-judged trace =
+    ap (checkedAll (heads trace)) (scan-each (secondGood trace) (λ k. Second (k + 1)) 0 (countOf trace))
+    ∙ sym (checkedAll-append (heads trace) (each (secondGood trace) (λ k. Second (k + 1)) 0 (countOf trace)) Accepted)
+
+abbrev pub pairChecks : List ℕ → List ℕ → List Check
+pairChecks normal reduced = traceChecks normal ++ (traceChecks reduced ++ (check (eqb (countOf normal) (countOf reduced)) PairCounts ∷ []))
+
+pub pair-judged : (normal reduced : List ℕ) → judgePair normal reduced ≡ judgedBy (pairChecks normal reduced)
+unfolding judgePair
+pair-judged normal reduced =
+    let last = check (eqb (countOf normal) (countOf reduced)) PairCounts ∷ [] in
+    (λ i. andThen (trace-judged normal i) (andThen (trace-judged reduced i) (judgedBy last)))
+    ∙ ap (andThen (judgedBy (traceChecks normal))) (then-list (traceChecks reduced) last)
+    ∙ then-list (traceChecks normal) (traceChecks reduced ++ last)
+
+-- ---- a vehicle sheet, 5 to 7
+abbrev pub vehicleChecks : VehicleSheet → List Check
+vehicleChecks v =
+    engineChecks v
+    ++ (each (gearGood false (v .ndv)) (gearRefusal false) 0 (v .gears)
+    ++ (each (gearGood true (v .ndv)) (gearRefusal true) 0 (v .gears - 1) ++ (check (mild v) PowerToMass ∷ [])))
+
+vehicle-judged : (v : VehicleSheet) → judgeVehicle v ≡ judgedBy (vehicleChecks v)
+unfolding judgeVehicle
+vehicle-judged v =
+    let ratios = scan-each (gearGood false (v .ndv)) (gearRefusal false) 0 (v .gears) in
+    let falls = scan-each (gearGood true (v .ndv)) (gearRefusal true) 0 (v .gears - 1) in
+    let last = check (mild v) PowerToMass ∷ [] in
+    (λ i. andThen (judgedBy (engineChecks v)) (andThen (ratios i) (andThen (falls i) (judgedBy last)))) ∙ simp then-list
+
+-- ---- the gear sheet, 1 to 9
+abbrev pub gearChecks : List ℕ → VehicleSheet → ℕ → ℕ → List Check
+gearChecks trace v room start =
+    traceChecks trace
+    ++ (vehicleChecks v
+    ++ (check (leb start room && leb (2 * countOf trace) (room - start)) Room
+    ∷ each (λ k. not (ownAt (shiftOf v) trace k .close)) (λ k. TooClose (k + 1)) 0 (countOf trace)))
+
+flat : (t v r c : List Check) → andThen (andThen (judgedBy t) (andThen (judgedBy v) (judgedBy r))) (judgedBy c) ≡ judgedBy (t ++ (v ++ (r ++ c)))
+flat t v r c = simp (then-list, append-assoc)
+
+pub gear-judged : (trace : List ℕ) (v : VehicleSheet) (room start : ℕ) → gearAnswer trace v room start ≡ judgedBy (gearChecks trace v room start)
+unfolding gearAnswer gears.judgeSheet
+gear-judged trace v room start =
+    let space = check (leb start room && leb (2 * countOf trace) (room - start)) Room ∷ [] in
+    let close = scan-each (λ k. not (ownAt (shiftOf v) trace k .close)) (λ k. TooClose (k + 1)) 0 (countOf trace) in
+    (λ i. andThen (andThen (trace-judged trace i) (andThen (vehicle-judged v i) (judgedBy space))) (close i))
+    ∙ flat (traceChecks trace) (vehicleChecks v) space _
+
+-- ---- the emission sheet, 10 to 14
+abbrev judgedRead : Read → Judged
+judgedRead (read.Units readings) = Accepted
+judgedRead (read.Refused refusal) = Refused refusal
+
+abbrev pub judgedAnswer : Answer → Judged
+judgedAnswer (Result result) = Accepted
+judgedAnswer (answer.Refused refusal) = Refused refusal
+
+on-part : (p : PartRead) (next : Sides → Read) (rest : Judged) → ((sides : Sides) → judgedRead (next sides) ≡ rest)
+    → judgedRead (onPart p next) ≡ andThen (judgedPart p) rest
+on-part (partRead.Units sides) next rest h = h sides
+on-part (partRead.Refused refusal) next rest h = refl
+
+third-judged : (class : ℕ) (third : Part) → judgedPart (readThird class third) ≡ judgedBy (ofThird class (readingChecks 3 third))
+unfolding readThird
+third-judged class third = go (eqb class 3)
+  where
+    go : (b : Bool) → judgedPart (cond b (readPart 3 third) (partRead.Units (record { bag = nothing; air = nothing })))
+        ≡ judgedBy (cond b (readingChecks 3 third) [])
+    go true = part-judged 3 third
+    go false = refl
+
+then-nothing : (j : Judged) → andThen j Accepted ≡ j
+then-nothing Accepted = refl
+then-nothing (Refused refusal) = refl
+
+read-judged : (s : BagSheet) → judgedRead (readIn s) ≡ judgedBy (messageChecks s)
+unfolding readIn messageChecks
+read-judged s =
+    on-part (readPart 1 (s .first)) _ _
+    (λ first. on-part (readPart 2 (s .second)) _ _ (λ second. on-part (readThird (s .class) (s .third)) _ _ (λ third. refl)))
+    ∙ simp (then-nothing, part-judged, third-judged, then-list)
+
+hand-judged : (j : Judged) (next : Answer) → judgedAnswer (handUp j next) ≡ andThen j (judgedAnswer next)
+hand-judged Accepted next = refl
+hand-judged (Refused refusal) next = refl
+
+-- 13 and 14 are judged of what was read
+abbrev pub lateOn : BagSheet → Read → List Check
+lateOn s (read.Units readings) = lateChecks s readings
+lateOn s (read.Refused refusal) = []
+
+late-judged : (s : BagSheet) (x : Read) → judgedAnswer (onRead x (readAnswer s)) ≡ andThen (judgedRead x) (judgedBy (lateOn s x))
+unfolding readAnswer
+late-judged s (read.Units readings) = hand-judged (judgeLate s readings) _ ∙ then-nothing (judgeLate s readings)
+late-judged s (read.Refused refusal) = refl
+
+abbrev pub emissionChecks : BagSheet → List Check
+emissionChecks s = sheetChecks s ++ (messageChecks s ++ lateOn s (readIn s))
+
+pub emission-judged : (s : BagSheet) → judgedAnswer (testAnswer s) ≡ judgedBy (emissionChecks s)
+unfolding testAnswer
+emission-judged s = hand-judged (judgeSheet s) _ ∙ simp (late-judged, read-judged, then-list)
