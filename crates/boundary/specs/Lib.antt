@@ -1,2 +1,2 @@
-pub mod Outcome
-pub mod Sheet
+pub mod Version
+pub mod Speeds

@@ -1,64 +1,29 @@
-// What a bench written in C or Rust calls: include/ylhovesko.h declares it. A slice crosses as its pointer and then its length, and a struct of
-// another crate that is marked #[repr(C)] as it is; what holds an enum has a form of its own here, in numbers. No function asks anything of what is
-// lent to it beyond that it can be read, and the buffer written.
+// What a bench written in C or Rust calls: include/ylhovesko.h declares it. A slice crosses as its pointer and then its length, and structs in numbers
+// alone. No function asks anything of what is lent to it beyond that it can be read, and the buffer written.
 use arith::Ends;
-use bag::BagSheet;
-use bag::Densities;
-use bag::Fuel;
-use bag::Limits;
-use bag::Part;
-use bag::Triple;
-use emission::Answer;
-use emission::Parts;
-use emission::TestResult;
-use emission::Verdicts;
-use part::Gases;
+use crossing::Sheet;
+use crossing::TestOutcome;
+use outcome::Outcome;
 use preset::Preset;
-use reading::Bag;
-use reading::Message;
 use refusal::Judged;
-use stage::Verdict;
 use vehicle::VehicleSheet;
 ghost use mathlib.Core.Path.{_≡_};
 ghost use lib.ListN.{length};
 ghost use Rattle.trace.specs.Judging.{judgePair};
 ghost use Rattle.gear.specs.Sheet.{gearAnswer, gearBuffer};
-ghost use Rattle.emission.specs.declared.Answer.the-variants.{Result};
 ghost use Rattle.emission.specs.Test.{testAnswer};
 ghost use Rattle.preset.specs.Preset.{petrolOf, dieselOf};
-ghost use Rattle.boundary.specs.Outcome.{outcomeOf, chosenOf};
-ghost use Rattle.boundary.specs.Sheet.{messageOf, bagOf, sheetPartOf, sheetOf, verdictNumber, verdictNumbers, withNothing, resultOut};
+ghost use Rattle.outcome.specs.Outcome.{outcomeOf, chosenOf};
+ghost use Rattle.boundary.specs.Version.{version};
+ghost use Rattle.boundary.specs.Speeds.{noSpeeds, speedsOut};
+ghost use Rattle.crossing.specs.Sheet.{sheetOf, resultOut};
 
-// A refusal's number and place, or zeros where all was accepted.
-#[repr(C)]
-pub struct Outcome {
-    pub number: u32,
-    pub at: u32,
-    pub within: u32,
-    pub side: u32,
-}
-
-fn outcome_of(judged: Judged) -> Outcome
-    ensures { λ r. ⌜ r ≡ outcomeOf judged ⌝ }
+// The version of this boundary: a caller built for another must not call on.
+#[no_mangle]
+pub extern "C" fn ylhovesko_version() -> u32
+    ensures { λ r. ⌜ r ≡ version ⌝ }
 {
-    match judged {
-        Judged::Accepted => Outcome {
-            number: 0,
-            at: 0,
-            within: 0,
-            side: 0,
-        },
-        Judged::Refused(refusal) => {
-            let number = refusal::number_of(refusal);
-            let place = refusal::place_of(refusal);
-            Outcome {
-                number,
-                at: place.at,
-                within: place.within,
-                side: place.side,
-            }
-        }
-    }
+    2
 }
 
 // The gear sheet: refusals 1 to 9, or the row in the buffer from the start on.
@@ -71,7 +36,7 @@ pub extern "C" fn ylhovesko_gears(
 ) -> Outcome
     ensures { λ r. ⌜ (r ≡ outcomeOf (gearAnswer (now (trace .entry)) vehicle (length (now (buffer .entry))) start)) × (now (buffer .exit) ≡ gearBuffer (now (trace .entry)) vehicle (now (buffer .entry)) start) ⌝ }
 {
-    outcome_of(gear::write_gears(trace, vehicle, buffer, start))
+    outcome::outcome_of(gear::write_gears(trace, vehicle, buffer, start))
 }
 
 // A pair of traces: refusals 1 to 4 of each, and 15.
@@ -79,7 +44,7 @@ pub extern "C" fn ylhovesko_gears(
 pub extern "C" fn ylhovesko_judge_pair(normal: &[u8], reduced: &[u8]) -> Outcome
     ensures { λ r. ⌜ r ≡ outcomeOf (judgePair (now (normal .entry)) (now (reduced .entry))) ⌝ }
 {
-    outcome_of(trace::judge_pair(normal, reduced))
+    outcome::outcome_of(trace::judge_pair(normal, reduced))
 }
 
 // Which of the two lent traces `trace::choose` hands back: no reference can be returned to C, and the caller holds both. 0 neither, 1 the normal, 2
@@ -94,197 +59,39 @@ pub extern "C" fn ylhovesko_chosen(normal: &[u8], reduced: &[u8], switch: bool) 
     if switch { 2 } else { 1 }
 }
 
-// A message of the analyser: kind 0 ppm, 1 percent, 2 over range, and every other not fitted. The float comes as its bits.
+// `speeds::ShiftSpeeds` beside the outcome; all 0 where that is a refusal.
 #[repr(C)]
-pub struct Reading {
-    pub kind: u32,
-    pub bits: u32,
-}
-
-// The readings of one bag, or of its dilution air.
-#[repr(C)]
-pub struct Readings {
-    pub hc: Reading,
-    pub co: Reading,
-    pub nox: Reading,
-    pub co2: Reading,
-}
-
-// `bag::Part`, its messages as numbers.
-#[repr(C)]
-pub struct SheetPart {
-    pub pump: u32,
-    pub revolutions: u32,
-    pub barometer: u32,
-    pub depression: u32,
-    pub temperature: i32,
-    pub humidity: u32,
-    pub saturation: u32,
-    pub distance: u32,
-    pub density: Densities,
-    pub bag: Readings,
-    pub air: Readings,
-}
-
-// `bag::BagSheet`, its messages as numbers.
-#[repr(C)]
-pub struct Sheet {
-    pub class: u32,
-    pub parts: u32,
-    pub triple: Triple,
-    pub fuel: Fuel,
-    pub limits: Limits,
-    pub first: SheetPart,
-    pub second: SheetPart,
-    pub third: SheetPart,
-}
-
-// 1 pass, 2 fail, 3 undecided; 0 is no verdict, so that beside a refusal no gas passes.
-#[repr(C)]
-pub struct VerdictNumbers {
-    pub hc: u32,
-    pub co: u32,
-    pub nox: u32,
-    pub co2: u32,
-}
-
-// `emission::TestResult` beside the outcome; all 0 where that is a refusal.
-#[repr(C)]
-pub struct TestOutcome {
+pub struct SpeedsOutcome {
     pub outcome: Outcome,
-    pub parts: Parts,
-    pub weighted: Gases,
-    pub verdicts: VerdictNumbers,
-    pub fuel: Ends,
+    pub count: u32,
+    pub upshift: [Ends; 7],
 }
 
-fn message_of(r: Reading) -> Message
-    ensures { λ m. ⌜ m ≡ messageOf r ⌝ }
+fn no_speeds(outcome: Outcome) -> SpeedsOutcome
+    ensures { λ r. ⌜ r ≡ noSpeeds outcome ⌝ }
 {
-    let kind = r.kind;
-    match kind {
-        0 => Message::Ppm(reading::float_of(r.bits)),
-        1 => Message::Percent(reading::float_of(r.bits)),
-        2 => Message::OverRange,
-        _ => Message::NotFitted,
-    }
-}
-
-fn bag_of(r: Readings) -> Bag
-    ensures { λ b. ⌜ b ≡ bagOf r ⌝ }
-{
-    Bag {
-        hc: message_of(r.hc),
-        co: message_of(r.co),
-        nox: message_of(r.nox),
-        co2: message_of(r.co2),
-    }
-}
-
-fn sheet_part_of(p: SheetPart) -> Part
-    ensures { λ r. ⌜ r ≡ sheetPartOf p ⌝ }
-{
-    let density = p.density;
-    Part {
-        pump: p.pump,
-        revolutions: p.revolutions,
-        barometer: p.barometer,
-        depression: p.depression,
-        temperature: p.temperature,
-        humidity: p.humidity,
-        saturation: p.saturation,
-        distance: p.distance,
-        density,
-        bag: bag_of(p.bag),
-        air: bag_of(p.air),
-    }
-}
-
-fn sheet_of(s: Sheet) -> BagSheet
-    ensures { λ r. ⌜ r ≡ sheetOf s ⌝ }
-{
-    let triple = s.triple;
-    let fuel = s.fuel;
-    let limits = s.limits;
-    BagSheet {
-        class: s.class,
-        parts: s.parts,
-        triple,
-        fuel,
-        limits,
-        first: sheet_part_of(s.first),
-        second: sheet_part_of(s.second),
-        third: sheet_part_of(s.third),
-    }
-}
-
-fn verdict_number(v: Verdict) -> u32
-    ensures { λ r. ⌜ r ≡ verdictNumber v ⌝ }
-{
-    match v {
-        Verdict::Pass => 1,
-        Verdict::Fail => 2,
-        Verdict::Undecided => 3,
-    }
-}
-
-fn verdict_numbers(v: Verdicts) -> VerdictNumbers
-    ensures { λ r. ⌜ r ≡ verdictNumbers v ⌝ }
-{
-    let hc = v.hc;
-    let co = v.co;
-    let nox = v.nox;
-    let co2 = v.co2;
-    VerdictNumbers {
-        hc: verdict_number(hc),
-        co: verdict_number(co),
-        nox: verdict_number(nox),
-        co2: verdict_number(co2),
-    }
-}
-
-fn with_nothing(outcome: Outcome) -> TestOutcome
-    ensures { λ r. ⌜ r ≡ withNothing outcome ⌝ }
-{
-    TestOutcome {
+    SpeedsOutcome {
         outcome,
-        parts: Parts {
-            first: emission::no_part(),
-            second: emission::no_part(),
-            third: emission::no_part(),
-        },
-        weighted: emission::no_gases(),
-        verdicts: VerdictNumbers {
-            hc: 0,
-            co: 0,
-            nox: 0,
-            co2: 0,
-        },
-        fuel: arith::exactly(0),
+        count: 0,
+        upshift: [arith::exactly(0); 7],
     }
 }
 
-fn with_result(result: TestResult) -> TestOutcome
-    ensures { λ r. ⌜ r ≡ resultOut (Result result) ⌝ }
+// The shift speeds of a vehicle: refusals 5 to 7, or the upshift speeds in 0.001 km/h.
+#[no_mangle]
+pub extern "C" fn ylhovesko_shift_speeds(vehicle: VehicleSheet) -> SpeedsOutcome
+    ensures { λ r. ⌜ r ≡ speedsOut vehicle ⌝ }
 {
-    let parts = result.parts;
-    let weighted = result.weighted;
-    let fuel = result.fuel;
-    TestOutcome {
-        outcome: outcome_of(Judged::Accepted),
-        parts,
-        weighted,
-        verdicts: verdict_numbers(result.verdicts),
-        fuel,
-    }
-}
-
-fn result_out(answer: Answer) -> TestOutcome
-    ensures { λ r. ⌜ r ≡ resultOut answer ⌝ }
-{
-    match answer {
-        Answer::Result(result) => with_result(result),
-        Answer::Refused(refusal) => with_nothing(outcome_of(Judged::Refused(refusal))),
+    let judged = vehicle::judge(vehicle);
+    let Judged::Accepted = judged else {
+        return no_speeds(outcome::outcome_of(judged));
+    };
+    let speeds = speeds::of_vehicle(vehicle);
+    let upshift = speeds.upshift;
+    SpeedsOutcome {
+        outcome: outcome::outcome_of(judged),
+        count: speeds.count,
+        upshift,
     }
 }
 
@@ -293,7 +100,7 @@ fn result_out(answer: Answer) -> TestOutcome
 pub extern "C" fn ylhovesko_result(sheet: Sheet) -> TestOutcome
     ensures { λ r. ⌜ r ≡ resultOut (testAnswer (sheetOf sheet)) ⌝ }
 {
-    result_out(emission::test(sheet_of(sheet)))
+    crossing::result_out(emission::test(crossing::sheet_of(sheet)))
 }
 
 // What petrol, or diesel, brings to the bag sheet, with the density of the test fuel in g/l.

@@ -24,9 +24,9 @@ use Rattle.emission.specs.declared.Read.the-variants as read
 use Rattle.emission.specs.declared.Answer.{Answer}
 use Rattle.emission.specs.declared.Answer.the-variants as answer
 use Rattle.emission.specs.Test.{readIn, lateChecks, testAnswer}
-use Rattle.boundary.specs.declared.Outcome.{Outcome}
-use Rattle.boundary.specs.Outcome.{outcomeOf}
-use Rattle.boundary.specs.Sheet.{withNothing, resultOut}
+use Rattle.outcome.specs.declared.Outcome.{Outcome}
+use Rattle.outcome.specs.Outcome.{outcomeOf}
+use Rattle.crossing.specs.Sheet.{withNothing, resultOut}
 use Rattle.claims.specs.Table.{Line, outcome, plain, placed, lines, accepted, firstOf, AllHold, FirstFails, Exactly, notAfter, rising}
 use Rattle.claims.specs.Table.{ratioLine, fallLine, closeLine, traceTable, pairTable, gearTable, emissionTable}
 use Rattle.claims.proofs.Checks.{check, each, pairChecks, pair-judged, gearChecks, gear-judged, judgedAnswer, emissionChecks, emission-judged}

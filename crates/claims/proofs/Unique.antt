@@ -23,6 +23,9 @@ use Rattle.stage.proofs as stage
 use Rattle.part.proofs as part
 use Rattle.emission.proofs as emission
 use Rattle.preset.proofs as preset
+use Rattle.speeds.proofs as speeds
+use Rattle.outcome.proofs as outcome
+use Rattle.crossing.proofs as crossing
 use Rattle.boundary.proofs as boundary
 
 -- ---- arith
@@ -92,6 +95,15 @@ row-cap-runs-unique κs a x y ws vs pre h h′ = (refl, ap (λ (l : List ℕ). (
 pub row-pass-unique : Coincide 2 row.pass.Kinds.ps row.pass.Kinds.r row.pass.Reads.Pre row.pass.Reads.Post
 row-pass-unique κs a x y ws vs pre h h′ = (refl, ap (λ (l : List ℕ). (tt, (tt, (l, (tt, tt))))) (h ∙ sym h′))
 
+pub row-capped-unique : Coincide 0 row.capped.Kinds.ps row.capped.Kinds.r row.capped.Reads.Pre row.capped.Reads.Post
+row-capped-unique κs a x y ws vs pre h h′ = (h ∙ sym h′, refl)
+
+pub row-cap-after-unique : Coincide 0 row.cap_after.Kinds.ps row.cap_after.Kinds.r row.cap_after.Reads.Pre row.cap_after.Reads.Post
+row-cap-after-unique κs a x y ws vs pre h h′ = (h ∙ sym h′, refl)
+
+pub row-ruled-unique : Coincide 0 row.ruled.Kinds.ps row.ruled.Kinds.r row.ruled.Reads.Pre row.ruled.Reads.Post
+row-ruled-unique κs a x y ws vs pre h h′ = (h ∙ sym h′, refl)
+
 -- ---- runs
 pub runs-correct-unique : Coincide 2 runs.correct.Kinds.ps runs.correct.Kinds.r runs.correct.Reads.Pre runs.correct.Reads.Post
 runs-correct-unique κs a x y ws vs pre h h′ = (refl, ap (λ (l : List ℕ). (tt, (l, (tt, tt)))) (h ∙ sym h′))
@@ -102,6 +114,9 @@ phase-first-row-unique κs a x y ws vs pre h h′ = (refl, ap (λ (l : List ℕ)
 
 pub phase-set-clutch-unique : Coincide 2 phase.set_clutch.Kinds.ps phase.set_clutch.Kinds.r phase.set_clutch.Reads.Pre phase.set_clutch.Reads.Post
 phase-set-clutch-unique κs a x y ws vs pre h h′ = (refl, ap (λ (l : List ℕ). (tt, (l, (tt, tt)))) (h ∙ sym h′))
+
+pub phase-clutch-of-unique : Coincide 0 phase.clutch_of.Kinds.ps phase.clutch_of.Kinds.r phase.clutch_of.Reads.Pre phase.clutch_of.Reads.Post
+phase-clutch-of-unique κs a x y ws vs pre h h′ = (h ∙ sym h′, refl)
 
 -- ---- vehicle
 pub vehicle-judge-unique : Coincide 0 vehicle.judge.Kinds.ps vehicle.judge.Kinds.r vehicle.judge.Reads.Pre vehicle.judge.Reads.Post
@@ -114,9 +129,19 @@ shift-shift-of-unique κs a x y ws vs pre h h′ = (h ∙ sym h′, refl)
 pub shift-own-gear-unique : Coincide 0 shift.own_gear.Kinds.ps shift.own_gear.Kinds.r shift.own_gear.Reads.Pre shift.own_gear.Reads.Post
 shift-own-gear-unique κs a x y ws vs pre h h′ = (h ∙ sym h′, refl)
 
+pub shift-side-at-unique : Coincide 0 shift.side_at.Kinds.ps shift.side_at.Kinds.r shift.side_at.Reads.Pre shift.side_at.Reads.Post
+shift-side-at-unique κs a x y ws vs pre h h′ = (h ∙ sym h′, refl)
+
 -- ---- gear
 pub gear-write-gears-unique : Coincide 2 gear.write_gears.Kinds.ps gear.write_gears.Kinds.r gear.write_gears.Reads.Pre gear.write_gears.Reads.Post
 gear-write-gears-unique κs a x y ws vs pre h h′ = (h .0 ∙ sym (h′ .0), ap (λ (l : List ℕ). (tt, (tt, (l, (tt, tt))))) (h .1 ∙ sym (h′ .1)))
+
+pub gear-own-second-unique : Coincide 0 gear.own_second.Kinds.ps gear.own_second.Kinds.r gear.own_second.Reads.Pre gear.own_second.Reads.Post
+gear-own-second-unique κs a x y ws vs pre h h′ = (h ∙ sym h′, refl)
+
+-- ---- speeds
+pub speeds-of-vehicle-unique : Coincide 0 speeds.of_vehicle.Kinds.ps speeds.of_vehicle.Kinds.r speeds.of_vehicle.Reads.Pre speeds.of_vehicle.Reads.Post
+speeds-of-vehicle-unique κs a x y ws vs pre h h′ = (h ∙ sym h′, refl)
 
 -- ---- reading
 pub reading-convert-unique : Coincide 0 reading.convert.Kinds.ps reading.convert.Kinds.r reading.convert.Reads.Pre reading.convert.Reads.Post
@@ -208,6 +233,16 @@ preset-petrol-unique κs a x y ws vs pre h h′ = (h ∙ sym h′, refl)
 pub preset-diesel-unique : Coincide 0 preset.diesel.Kinds.ps preset.diesel.Kinds.r preset.diesel.Reads.Pre preset.diesel.Reads.Post
 preset-diesel-unique κs a x y ws vs pre h h′ = (h ∙ sym h′, refl)
 
+-- ---- outcome and crossing
+pub outcome-outcome-of-unique : Coincide 0 outcome.outcome_of.Kinds.ps outcome.outcome_of.Kinds.r outcome.outcome_of.Reads.Pre outcome.outcome_of.Reads.Post
+outcome-outcome-of-unique κs a x y ws vs pre h h′ = (h ∙ sym h′, refl)
+
+pub crossing-sheet-of-unique : Coincide 0 crossing.sheet_of.Kinds.ps crossing.sheet_of.Kinds.r crossing.sheet_of.Reads.Pre crossing.sheet_of.Reads.Post
+crossing-sheet-of-unique κs a x y ws vs pre h h′ = (h ∙ sym h′, refl)
+
+pub crossing-result-out-unique : Coincide 0 crossing.result_out.Kinds.ps crossing.result_out.Kinds.r crossing.result_out.Reads.Pre crossing.result_out.Reads.Post
+crossing-result-out-unique κs a x y ws vs pre h h′ = (h ∙ sym h′, refl)
+
 -- ---- boundary
 pub boundary-ylhovesko-gears-unique : Coincide 2 boundary.ylhovesko_gears.Kinds.ps boundary.ylhovesko_gears.Kinds.r boundary.ylhovesko_gears.Reads.Pre boundary.ylhovesko_gears.Reads.Post
 boundary-ylhovesko-gears-unique κs a x y ws vs pre h h′ = (h .0 ∙ sym (h′ .0), ap (λ (l : List ℕ). (tt, (tt, (l, (tt, tt))))) (h .1 ∙ sym (h′ .1)))
@@ -226,6 +261,12 @@ boundary-ylhovesko-petrol-unique κs a x y ws vs pre h h′ = (h ∙ sym h′, r
 
 pub boundary-ylhovesko-diesel-unique : Coincide 0 boundary.ylhovesko_diesel.Kinds.ps boundary.ylhovesko_diesel.Kinds.r boundary.ylhovesko_diesel.Reads.Pre boundary.ylhovesko_diesel.Reads.Post
 boundary-ylhovesko-diesel-unique κs a x y ws vs pre h h′ = (h ∙ sym h′, refl)
+
+pub boundary-ylhovesko-version-unique : Coincide 0 boundary.ylhovesko_version.Kinds.ps boundary.ylhovesko_version.Kinds.r boundary.ylhovesko_version.Reads.Pre boundary.ylhovesko_version.Reads.Post
+boundary-ylhovesko-version-unique κs a x y ws vs pre h h′ = (h ∙ sym h′, refl)
+
+pub boundary-ylhovesko-shift-speeds-unique : Coincide 0 boundary.ylhovesko_shift_speeds.Kinds.ps boundary.ylhovesko_shift_speeds.Kinds.r boundary.ylhovesko_shift_speeds.Reads.Pre boundary.ylhovesko_shift_speeds.Reads.Post
+boundary-ylhovesko-shift-speeds-unique κs a x y ws vs pre h h′ = (h ∙ sym h′, refl)
 
 -- ---- the chosen trace: the same place in memory and the same bytes. The third part of a reference's value is its ghost name, which no program sees
 pub trace-choose-unique :

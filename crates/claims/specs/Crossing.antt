@@ -9,8 +9,8 @@ use Rattle.refusal.specs.declared.Judged.the-variants.{Accepted, Refused}
 use Rattle.reading.specs.declared.Message.the-variants.{Ppm, Percent, OverRange, NotFitted}
 use Rattle.stage.specs.declared.Verdict.the-variants.{Pass, Fail, Undecided}
 use Rattle.preset.specs.Preset.{petrolOf, dieselOf}
-use Rattle.boundary.specs.Outcome.{outcomeOf, chosenOf}
-use Rattle.boundary.specs.Sheet.{messageOf, verdictNumber}
+use Rattle.outcome.specs.Outcome.{outcomeOf, chosenOf}
+use Rattle.crossing.specs.Sheet.{messageOf, verdictNumber}
 use Rattle.claims.specs.Figures.{Figure, _gives_}
 use Rattle.claims.specs.Table.{outcome}
 

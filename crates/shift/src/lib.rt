@@ -138,7 +138,7 @@ fn compared(speed: u32, ndv: u32, side: Ends) -> Tally
     }
 }
 
-fn side_at(first: Ends, higher: Ends, i: usize) -> Ends
+pub fn side_at(first: Ends, higher: Ends, i: usize) -> Ends
     ensures { λ r. ⌜ r ≡ sideAt first higher i ⌝ }
 {
     if i == 0 { first } else { higher }

@@ -1,7 +1,7 @@
 -- `boundary::ylhovesko_gears` meets its contract: it is the gear sheet's, with the answer turned into numbers. Assumes nothing.
 use mathlib.Core.Path.{ap, _∙_}
 use borrow.Author.Needs.{needs}
-use Rattle.boundary.specs.Outcome.{outcomeOf}
+use Rattle.outcome.specs.Outcome.{outcomeOf}
 use Rattle.boundary.proofs.ylhovesko_gears.Statement.{statement}
 use Rattle.boundary.proofs.ylhovesko_gears.Tie as tie
 

@@ -1,6 +1,6 @@
 -- `boundary::ylhovesko_judge_pair` meets its contract: it is the pair's, with the answer turned into numbers. Assumes nothing.
 use mathlib.Core.Path.{ap, _∙_}
-use Rattle.boundary.specs.Outcome.{outcomeOf}
+use Rattle.outcome.specs.Outcome.{outcomeOf}
 use Rattle.boundary.proofs.ylhovesko_judge_pair.Statement.{statement}
 use Rattle.boundary.proofs.ylhovesko_judge_pair.Tie as tie
 

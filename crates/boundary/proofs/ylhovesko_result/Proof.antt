@@ -1,7 +1,7 @@
 -- `boundary::ylhovesko_result` meets its contract: it is the emission sheet's, with the sheet and the answer in numbers. Assumes nothing.
 use mathlib.Core.Path.{ap, _∙_}
 use Rattle.emission.specs.Test.{testAnswer}
-use Rattle.boundary.specs.Sheet.{resultOut}
+use Rattle.crossing.specs.Sheet.{resultOut}
 use Rattle.boundary.proofs.ylhovesko_result.Statement.{statement}
 use Rattle.boundary.proofs.ylhovesko_result.Tie as tie
 

@@ -1,0 +1,11 @@
+-- `boundary::no_speeds` meets its contract. Assumes nothing.
+use Rattle.boundary.specs.Speeds.{noSpeeds}
+use Rattle.boundary.proofs.no_speeds.Statement.{statement}
+use Rattle.boundary.proofs.no_speeds.Tie as tie
+
+returns : tie.Need-returns
+unfolding noSpeeds
+returns c = simp (c .exactly .ensures)
+
+pub no-speeds-spec : {M : Type 1} → statement M
+no-speeds-spec = tie.close (tie.spec (λ c κs. tt) returns)

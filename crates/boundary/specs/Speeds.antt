@@ -1,0 +1,28 @@
+-- The shift speeds of a vehicle as they cross the boundary: beside a refusal all 0.
+use mathlib.Core.List.{[], _∷_}
+use lib.IntN.{pos}
+use Rattle.arith.specs.declared.Ends.{Ends}
+use Rattle.arith.specs.Stages.{exactly}
+use Rattle.refusal.specs.declared.Judged.{Judged}
+use Rattle.refusal.specs.declared.Judged.the-variants.{Accepted, Refused}
+use Rattle.vehicle.specs.declared.VehicleSheet.{VehicleSheet}
+use Rattle.vehicle.specs.Sheet.{judgeVehicle}
+use Rattle.shift.specs.Speeds.{shiftOf}
+use Rattle.speeds.specs.Upshifts.{upshiftsOf}
+use Rattle.outcome.specs.declared.Outcome.{Outcome}
+use Rattle.outcome.specs.Outcome.{outcomeOf}
+use Rattle.boundary.specs.declared.SpeedsOutcome.{SpeedsOutcome}
+
+abbrev none : Ends
+none = exactly (pos 0)
+
+unfoldable pub noSpeeds : Outcome → SpeedsOutcome
+noSpeeds outcome = record { outcome = outcome; count = 0; upshift = none ∷ none ∷ none ∷ none ∷ none ∷ none ∷ none ∷ [] }
+
+abbrev pub speedsOn : Judged → VehicleSheet → SpeedsOutcome
+speedsOn Accepted v = record { outcome = outcomeOf Accepted; count = upshiftsOf (shiftOf v) .count; upshift = upshiftsOf (shiftOf v) .upshift }
+speedsOn (Refused refusal) v = noSpeeds (outcomeOf (Refused refusal))
+
+-- 5, 6 and 7, or the upshift speeds
+unfoldable pub speedsOut : VehicleSheet → SpeedsOutcome
+speedsOut v = speedsOn (judgeVehicle v) v

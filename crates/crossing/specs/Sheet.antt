@@ -1,0 +1,105 @@
+-- The bag sheet and the result of a test as they cross the boundary: in numbers alone.
+use Prim.Native.Nat.{ℕ}
+use mathlib.Core.Bool.{cond}
+use lib.Dec.{eqb}
+use lib.IntN.{pos}
+use lib.Ieee.{ofBits, binary32}
+use Rattle.arith.specs.Stages.{exactly}
+use Rattle.refusal.specs.declared.Judged.the-variants.{Accepted}
+use Rattle.refusal.specs.declared.Judged.the-variants as judged
+use Rattle.reading.specs.declared.Message.{Message}
+use Rattle.reading.specs.declared.Message.the-variants.{Ppm, Percent, OverRange, NotFitted}
+use Rattle.reading.specs.declared.Bag.{Bag}
+use Rattle.bag.specs.declared.Part.{Part}
+use Rattle.bag.specs.declared.BagSheet.{BagSheet}
+use Rattle.stage.specs.declared.Verdict.{Verdict}
+use Rattle.stage.specs.declared.Verdict.the-variants.{Pass, Fail, Undecided}
+use Rattle.emission.specs.declared.Verdicts.{Verdicts}
+use Rattle.emission.specs.declared.Answer.{Answer}
+use Rattle.emission.specs.declared.Answer.the-variants.{Result, Refused}
+use Rattle.emission.specs.Test.{nothing, noPart}
+use Rattle.outcome.specs.declared.Outcome.{Outcome}
+use Rattle.crossing.specs.declared.Reading.{Reading}
+use Rattle.crossing.specs.declared.Readings.{Readings}
+use Rattle.crossing.specs.declared.SheetPart.{SheetPart}
+use Rattle.crossing.specs.declared.Sheet.{Sheet}
+use Rattle.crossing.specs.declared.VerdictNumbers.{VerdictNumbers}
+use Rattle.crossing.specs.declared.TestOutcome.{TestOutcome}
+use Rattle.outcome.specs.Outcome.{outcomeOf}
+
+-- ---- in
+-- 0 ppm, 1 percent, 2 over range; every other kind is not fitted
+abbrev pub messageOf : Reading → Message
+messageOf r =
+    cond (eqb (r .kind) 0) (Ppm (ofBits binary32 (r .bits)))
+    (cond (eqb (r .kind) 1) (Percent (ofBits binary32 (r .bits))) (cond (eqb (r .kind) 2) OverRange NotFitted))
+
+unfoldable pub bagOf : Readings → Bag
+bagOf r = record { hc = messageOf (r .hc); co = messageOf (r .co); nox = messageOf (r .nox); co2 = messageOf (r .co2) }
+
+unfoldable pub sheetPartOf : SheetPart → Part
+sheetPartOf p =
+    record {
+      pump = p .pump;
+      revolutions = p .revolutions;
+      barometer = p .barometer;
+      depression = p .depression;
+      temperature = p .temperature;
+      humidity = p .humidity;
+      saturation = p .saturation;
+      distance = p .distance;
+      density = p .density;
+      bag = bagOf (p .bag);
+      air = bagOf (p .air);
+    }
+
+unfoldable pub sheetOf : Sheet → BagSheet
+sheetOf s =
+    record {
+      class = s .class;
+      parts = s .parts;
+      triple = s .triple;
+      fuel = s .fuel;
+      limits = s .limits;
+      first = sheetPartOf (s .first);
+      second = sheetPartOf (s .second);
+      third = sheetPartOf (s .third);
+    }
+
+-- ---- out
+-- 0 is no verdict: it stands beside a refusal
+abbrev pub verdictNumber : Verdict → ℕ
+verdictNumber Pass = 1
+verdictNumber Fail = 2
+verdictNumber Undecided = 3
+
+unfoldable pub verdictNumbers : Verdicts → VerdictNumbers
+verdictNumbers v =
+    record {
+      hc = verdictNumber (v .hc);
+      co = verdictNumber (v .co);
+      nox = verdictNumber (v .nox);
+      co2 = verdictNumber (v .co2);
+    }
+
+-- beside a refusal all figures are 0, and there is no verdict
+unfoldable pub withNothing : Outcome → TestOutcome
+withNothing outcome =
+    record {
+      outcome = outcome;
+      parts = record { first = noPart; second = noPart; third = noPart };
+      weighted = nothing;
+      verdicts = record { hc = 0; co = 0; nox = 0; co2 = 0 };
+      fuel = exactly (pos 0);
+    }
+
+abbrev pub resultOut : Answer → TestOutcome
+resultOut (Result result) =
+    record {
+      outcome = outcomeOf Accepted;
+      parts = result .parts;
+      weighted = result .weighted;
+      verdicts = verdictNumbers (result .verdicts);
+      fuel = result .fuel;
+    }
+resultOut (Refused refusal) = withNothing (outcomeOf (judged.Refused refusal))

@@ -1,0 +1,216 @@
+// The bag sheet and the result of a test as they cross the boundary: a struct of another crate that is marked #[repr(C)] as it is; what holds an enum in a
+// form of its own here, in numbers.
+use arith::Ends;
+use bag::BagSheet;
+use bag::Densities;
+use bag::Fuel;
+use bag::Limits;
+use bag::Part;
+use bag::Triple;
+use emission::Answer;
+use emission::Parts;
+use emission::TestResult;
+use emission::Verdicts;
+use outcome::Outcome;
+use part::Gases;
+use reading::Bag;
+use reading::Message;
+use refusal::Judged;
+use stage::Verdict;
+ghost use mathlib.Core.Path.{_≡_};
+ghost use Rattle.emission.specs.declared.Answer.the-variants.{Result};
+ghost use Rattle.crossing.specs.Sheet.{messageOf, bagOf, sheetPartOf, sheetOf, verdictNumber, verdictNumbers, withNothing, resultOut};
+
+// A message of the analyser: kind 0 ppm, 1 percent, 2 over range, and every other not fitted. The float comes as its bits.
+#[repr(C)]
+pub struct Reading {
+    pub kind: u32,
+    pub bits: u32,
+}
+
+// The readings of one bag, or of its dilution air.
+#[repr(C)]
+pub struct Readings {
+    pub hc: Reading,
+    pub co: Reading,
+    pub nox: Reading,
+    pub co2: Reading,
+}
+
+// `bag::Part`, its messages as numbers.
+#[repr(C)]
+pub struct SheetPart {
+    pub pump: u32,
+    pub revolutions: u32,
+    pub barometer: u32,
+    pub depression: u32,
+    pub temperature: i32,
+    pub humidity: u32,
+    pub saturation: u32,
+    pub distance: u32,
+    pub density: Densities,
+    pub bag: Readings,
+    pub air: Readings,
+}
+
+// `bag::BagSheet`, its messages as numbers.
+#[repr(C)]
+pub struct Sheet {
+    pub class: u32,
+    pub parts: u32,
+    pub triple: Triple,
+    pub fuel: Fuel,
+    pub limits: Limits,
+    pub first: SheetPart,
+    pub second: SheetPart,
+    pub third: SheetPart,
+}
+
+// 1 pass, 2 fail, 3 undecided; 0 is no verdict, so that beside a refusal no gas passes.
+#[repr(C)]
+pub struct VerdictNumbers {
+    pub hc: u32,
+    pub co: u32,
+    pub nox: u32,
+    pub co2: u32,
+}
+
+// `emission::TestResult` beside the outcome; all 0 where that is a refusal.
+#[repr(C)]
+pub struct TestOutcome {
+    pub outcome: Outcome,
+    pub parts: Parts,
+    pub weighted: Gases,
+    pub verdicts: VerdictNumbers,
+    pub fuel: Ends,
+}
+
+fn message_of(r: Reading) -> Message
+    ensures { λ m. ⌜ m ≡ messageOf r ⌝ }
+{
+    let kind = r.kind;
+    match kind {
+        0 => Message::Ppm(reading::float_of(r.bits)),
+        1 => Message::Percent(reading::float_of(r.bits)),
+        2 => Message::OverRange,
+        _ => Message::NotFitted,
+    }
+}
+
+fn bag_of(r: Readings) -> Bag
+    ensures { λ b. ⌜ b ≡ bagOf r ⌝ }
+{
+    Bag {
+        hc: message_of(r.hc),
+        co: message_of(r.co),
+        nox: message_of(r.nox),
+        co2: message_of(r.co2),
+    }
+}
+
+fn sheet_part_of(p: SheetPart) -> Part
+    ensures { λ r. ⌜ r ≡ sheetPartOf p ⌝ }
+{
+    let density = p.density;
+    Part {
+        pump: p.pump,
+        revolutions: p.revolutions,
+        barometer: p.barometer,
+        depression: p.depression,
+        temperature: p.temperature,
+        humidity: p.humidity,
+        saturation: p.saturation,
+        distance: p.distance,
+        density,
+        bag: bag_of(p.bag),
+        air: bag_of(p.air),
+    }
+}
+
+pub fn sheet_of(s: Sheet) -> BagSheet
+    ensures { λ r. ⌜ r ≡ sheetOf s ⌝ }
+{
+    let triple = s.triple;
+    let fuel = s.fuel;
+    let limits = s.limits;
+    BagSheet {
+        class: s.class,
+        parts: s.parts,
+        triple,
+        fuel,
+        limits,
+        first: sheet_part_of(s.first),
+        second: sheet_part_of(s.second),
+        third: sheet_part_of(s.third),
+    }
+}
+
+fn verdict_number(v: Verdict) -> u32
+    ensures { λ r. ⌜ r ≡ verdictNumber v ⌝ }
+{
+    match v {
+        Verdict::Pass => 1,
+        Verdict::Fail => 2,
+        Verdict::Undecided => 3,
+    }
+}
+
+fn verdict_numbers(v: Verdicts) -> VerdictNumbers
+    ensures { λ r. ⌜ r ≡ verdictNumbers v ⌝ }
+{
+    let hc = v.hc;
+    let co = v.co;
+    let nox = v.nox;
+    let co2 = v.co2;
+    VerdictNumbers {
+        hc: verdict_number(hc),
+        co: verdict_number(co),
+        nox: verdict_number(nox),
+        co2: verdict_number(co2),
+    }
+}
+
+fn with_nothing(outcome: Outcome) -> TestOutcome
+    ensures { λ r. ⌜ r ≡ withNothing outcome ⌝ }
+{
+    TestOutcome {
+        outcome,
+        parts: Parts {
+            first: emission::no_part(),
+            second: emission::no_part(),
+            third: emission::no_part(),
+        },
+        weighted: emission::no_gases(),
+        verdicts: VerdictNumbers {
+            hc: 0,
+            co: 0,
+            nox: 0,
+            co2: 0,
+        },
+        fuel: arith::exactly(0),
+    }
+}
+
+fn with_result(result: TestResult) -> TestOutcome
+    ensures { λ r. ⌜ r ≡ resultOut (Result result) ⌝ }
+{
+    let parts = result.parts;
+    let weighted = result.weighted;
+    let fuel = result.fuel;
+    TestOutcome {
+        outcome: outcome::outcome_of(Judged::Accepted),
+        parts,
+        weighted,
+        verdicts: verdict_numbers(result.verdicts),
+        fuel,
+    }
+}
+
+pub fn result_out(answer: Answer) -> TestOutcome
+    ensures { λ r. ⌜ r ≡ resultOut answer ⌝ }
+{
+    match answer {
+        Answer::Result(result) => with_result(result),
+        Answer::Refused(refusal) => with_nothing(outcome::outcome_of(Judged::Refused(refusal))),
+    }
+}
