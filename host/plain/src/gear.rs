@@ -103,15 +103,11 @@ impl Speeds {
     }
 }
 
-fn is_stop(seconds: &[Second], k: usize) -> bool {
-    seconds[k].phase == Phase::Stop
-}
-
-/// "The last five seconds of a run of stop seconds are gear 1, earlier ones gear 0."
+/// "The last five seconds of a run of stop seconds are gear 1, earlier ones gear 0; a run under six is all gear 1."
 fn stop_gears(seconds: &[Second], row: &mut [u8]) {
     for k in 0..seconds.len() {
-        if is_stop(seconds, k) {
-            let left = seconds[k..].iter().take_while(|second| second.phase == Phase::Stop).count();
+        if seconds[k].is_stop() {
+            let left = seconds[k..].iter().take_while(|second| second.is_stop()).count();
             row[k] = u8::from(left <= 5);
         }
     }
@@ -119,14 +115,13 @@ fn stop_gears(seconds: &[Second], row: &mut [u8]) {
 
 /// "A deceleration run directly after an acceleration run: the smaller of its own gear and that run's last gear."
 fn correction_1(seconds: &[Second], row: &mut [u8]) {
-    let before = row.to_vec();
     for k in 0..seconds.len() {
         if seconds[k].phase != Phase::Deceleration {
             continue;
         }
-        let ahead = (0..k).rev().find(|&j| seconds[j].phase != Phase::Deceleration);
-        if let Some(last) = ahead.filter(|&j| seconds[j].phase == Phase::Acceleration) {
-            row[k] = before[k].min(before[last]);
+        let before_run = (0..k).rev().find(|&j| seconds[j].phase != Phase::Deceleration);
+        if let Some(last) = before_run.filter(|&j| seconds[j].phase == Phase::Acceleration) {
+            row[k] = row[k].min(row[last]);
         }
     }
 }
@@ -134,7 +129,7 @@ fn correction_1(seconds: &[Second], row: &mut [u8]) {
 /// "'No 1. gear': 1 becomes 2."
 fn correction_2(seconds: &[Second], row: &mut [u8]) {
     for k in 0..seconds.len() {
-        if !is_stop(seconds, k) && seconds[k].no_first_gear && row[k] == 1 {
+        if !seconds[k].is_stop() && seconds[k].no_first_gear && row[k] == 1 {
             row[k] = 2;
         }
     }
@@ -143,7 +138,7 @@ fn correction_2(seconds: &[Second], row: &mut [u8]) {
 /// "'No gear-shift': the preceding second's gear, unless that second is a stop; where this puts 1 on a 'no 1. gear' second, 2."
 fn correction_3(seconds: &[Second], row: &mut [u8]) {
     for k in 1..seconds.len() {
-        if !is_stop(seconds, k) && seconds[k].no_gear_shift && !is_stop(seconds, k - 1) {
+        if !seconds[k].is_stop() && seconds[k].no_gear_shift && !seconds[k - 1].is_stop() {
             row[k] = if row[k - 1] == 1 && seconds[k].no_first_gear { 2 } else { row[k - 1] };
         }
     }
@@ -158,49 +153,53 @@ fn correction_4(seconds: &[Second], row: &mut [u8]) {
     }
 }
 
-/// "At most one step up or down from the preceding second; a larger one is cut to one."
+/// "At most one step up or down from the preceding second; a larger one is cut to one." Before a second outside stop no gear is 0.
 fn correction_5(seconds: &[Second], row: &mut [u8]) {
     for k in 1..seconds.len() {
-        if !is_stop(seconds, k) {
-            row[k] = row[k].clamp(row[k - 1].saturating_sub(1), row[k - 1] + 1);
+        if !seconds[k].is_stop() {
+            row[k] = row[k].clamp(row[k - 1] - 1, row[k - 1] + 1);
         }
     }
 }
 
 /// The first second past the run of one gear that starts at second k; a run "holds no stop second and ends at one".
 fn run_end(seconds: &[Second], row: &[u8], k: usize) -> usize {
-    (k..seconds.len()).find(|&j| is_stop(seconds, j) || row[j] != row[k]).unwrap_or(seconds.len())
+    (k..seconds.len()).find(|&j| seconds[j].is_stop() || row[j] != row[k]).unwrap_or(seconds.len())
 }
 
-/// "A run of 1 to 4 seconds of one gear, with the same other gear on both sides, neither neighbour a stop, takes that gear; unless that is 1 and
-/// the run has a 'no 1. gear' second. .. a replaced run and the two beside it become one run, which counts as judged."
+/// The gear that a run takes, if it takes one: "a run of 1 to 4 seconds of one gear, with the same other gear on both sides, neither neighbour a
+/// stop, takes that gear; unless that is 1 and the run has a 'no 1. gear' second."
+fn taken(seconds: &[Second], row: &[u8], first: usize, end: usize) -> Option<u8> {
+    let between = first > 0 && !seconds[first - 1].is_stop() && end < seconds.len() && !seconds[end].is_stop();
+    if !between || end - first > 4 || row[first - 1] != row[end] {
+        return None;
+    }
+    let no_first_gear = seconds[first..end].iter().any(|second| second.no_first_gear);
+    Some(row[end]).filter(|&gear| gear != 1 || !no_first_gear)
+}
+
+/// "Runs are judged in order of first second, as the row then is; a replaced run and the two beside it become one run, which counts as judged."
 fn correction_6(seconds: &[Second], row: &mut [u8]) {
     let mut first = 0;
     while first < seconds.len() {
-        if is_stop(seconds, first) {
+        if seconds[first].is_stop() {
             first += 1;
             continue;
         }
         let end = run_end(seconds, row, first);
-        let between = first > 0 && !is_stop(seconds, first - 1) && end < seconds.len() && !is_stop(seconds, end);
-        let short = end - first <= 4;
-        if !between || !short || row[first - 1] != row[end] {
-            first = end;
-            continue;
-        }
-        let other = row[end];
-        if other == 1 && seconds[first..end].iter().any(|second| second.no_first_gear) {
-            first = end;
-            continue;
-        }
-        row[first..end].fill(other);
-        first = run_end(seconds, row, end);
+        first = match taken(seconds, row, first, end) {
+            Some(gear) => {
+                row[first..end].fill(gear);
+                run_end(seconds, row, end)
+            }
+            None => end,
+        };
     }
 }
 
 /// "Outside stop, the clutch is out exactly below 10.0 km/h"; at a stop it is out.
 fn clutch(second: &Second) -> u8 {
-    u8::from(second.phase == Phase::Stop || second.speed < 100)
+    u8::from(second.is_stop() || second.speed < 100)
 }
 
 /// The gear and clutch of every second into the buffer from the start on; or the first refusal, and the buffer as it was lent.
@@ -230,4 +229,49 @@ pub fn write_gears(file: &[u8], vehicle: &Vehicle, buffer: &mut [u8], start: usi
         out.copy_from_slice(&[gear, clutch(second)]);
     }
     Ok(())
+}
+
+#[cfg(test)]
+mod known_rows {
+    //! 01's rows of correction 6, and tables A13-2 and A13-3 of document 001 (24.9 and 34.9 per cent: docs/DECISIONS.md).
+
+    use super::*;
+
+    fn corrected(gears: &[u8]) -> Vec<u8> {
+        let cruise = Second { speed: 500, phase: Phase::Cruise, no_gear_shift: false, no_first_gear: false };
+        let mut row = gears.to_vec();
+        correction_6(&vec![cruise; gears.len()], &mut row);
+        row
+    }
+
+    #[test]
+    fn short_runs() {
+        assert_eq!(corrected(&[2, 3, 3, 3, 2]), [2; 5]);
+        assert_eq!(corrected(&[2, 3, 3, 3, 3, 3, 2]), [2, 3, 3, 3, 3, 3, 2]);
+        assert_eq!(corrected(&[2, 3, 4, 3, 2]), [2, 3, 3, 3, 2]);
+    }
+
+    /// Tenths, nearest; `over` / `under` is a fraction of what the printed figure counts.
+    fn in_tenths(over: i128, under: i128) -> i128 {
+        (20 * over + under).div_euclid(2 * under)
+    }
+
+    #[test]
+    fn annex_13() {
+        let machine = Vehicle { p: 720, m: 199, s: 11_800, n: 1150, ng: 6, ndv: [13_366, 9491, 7616, 6569, 5885, 5404, 0, 0] };
+        let (unit, band) = (10_000 * ONE, i128::from(machine.s - machine.n));
+        let shift = speeds(&machine);
+        for sides in [&shift.lower, &shift.upper] {
+            let speed = |i: usize| in_tenths(100 * sides[i], shift.ndv[i] * unit);
+            assert_eq!([0, 1, 2, 3, 4].map(speed), [285, 513, 639, 741, 827]);
+            // the engine speed in gear i where the upshift speed of gear j is driven, and its share of the band in per mille
+            let engine = |j: usize, i: usize| {
+                let (over, under) = (sides[j] * i128::from(machine.ndv[i]), shift.ndv[j] * unit);
+                let per_minute = (2 * over + under).div_euclid(2 * under);
+                (per_minute, in_tenths(100 * (over - i128::from(machine.n) * under), band * under))
+            };
+            assert_eq!([engine(0, 0), engine(1, 1)], [(3804, 249), (4869, 349)]);
+            assert_eq!([engine(0, 2), engine(1, 3), engine(2, 4), engine(3, 5)], [(2167, 96), (3370, 208), (3762, 245), (4005, 268)]);
+        }
+    }
 }

@@ -20,6 +20,12 @@ pub struct Second {
     pub no_first_gear: bool,
 }
 
+impl Second {
+    pub fn is_stop(&self) -> bool {
+        self.phase == Phase::Stop
+    }
+}
+
 fn sixteen(low: u8, high: u8) -> u32 {
     u32::from(u16::from_le_bytes([low, high]))
 }
