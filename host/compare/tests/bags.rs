@@ -4,6 +4,8 @@ use std::collections::BTreeMap;
 
 use compare::bags::{by_core, by_plain, case, read, Line};
 use compare::cases;
+use plain::preset::{DIESEL, PETROL};
+use ylhovesko::bags::{diesel, petrol};
 
 /// Every line of vectors/bags.txt: the number, the place and every figure.
 #[test]
@@ -18,6 +20,19 @@ fn stored_cases() {
         lines += 1;
     }
     assert_eq!(lines, 500);
+}
+
+/// The presets, with any density of the test fuel.
+#[test]
+fn presets() {
+    for density in [0, 750, u32::MAX] {
+        let told = [petrol(density), diesel(density)];
+        for (core, plain) in told.into_iter().zip([PETROL, DIESEL]) {
+            assert_eq!((core.density.each(), core.fuel.density), (plain.density, density));
+            assert_eq!([core.triple.d, core.triple.wc, core.triple.wh], plain.triple);
+            assert_eq!((core.fuel.k, [core.fuel.hc, core.fuel.co, core.fuel.co2]), (plain.k, plain.f));
+        }
+    }
 }
 
 /// Random cases, YLHOVESKO_CASES of them. A difference is shown as a line of vectors/bags.txt, with the case's seed. The core's ends are the second

@@ -1,12 +1,14 @@
 //! The paper's sheets a second time, in plain Rust, after the paper's sentences.
 //!
-//! It shares no code with the proved core, so that a slip in one shows as a difference. It favours what is
-//! easy to compare with the paper over what is fast: whole rows are copied, and numbers are 128 bits wide where 64 would need an argument.
+//! It shares no code with the proved core, so that a slip in one shows as a difference. It favours what is easy to compare with the paper over what
+//! is fast: a run is looked for anew at each of its seconds, and numbers are 128 bits wide where 64 would need an argument. docs/SECOND.md says how
+//! it was read against the papers.
 
 pub mod bags;
 pub mod exact;
 pub mod fraction;
 pub mod gear;
+pub mod preset;
 pub mod trace;
 
 /// A row of the paper's table of refusals; 0 stands where the table has no place.
