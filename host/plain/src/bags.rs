@@ -115,11 +115,12 @@ pub fn units(message: Message) -> Option<i128> {
     units.filter(|&units| units <= 16_777_216)
 }
 
-/// How many parts a class has.
-fn parts_of(class: u32) -> Option<u32> {
+/// "Class 1, parts 50 and 50 percent; class 2, 30 and 70; class 3, 25, 50 and 25."
+pub(crate) fn weights(class: u32) -> Option<&'static [u32]> {
     match class {
-        1 | 2 => Some(2),
-        3 => Some(3),
+        1 => Some(&[50, 50]),
+        2 => Some(&[30, 70]),
+        3 => Some(&[25, 50, 25]),
         _ => None,
     }
 }
@@ -156,7 +157,7 @@ pub(crate) struct Readings {
 }
 
 /// Refusal 12 of a part: gas by gas, the bag before the air.
-pub(crate) fn readings(place: u32, p: &Part) -> Result<Readings, Refusal> {
+fn readings(place: u32, p: &Part) -> Result<Readings, Refusal> {
     let mut readings = Readings { bag: [0; 4], air: [0; 4] };
     for gas in 0..4 {
         let unusable = |side| Refusal { within: gas as u32 + 1, side, ..at(12, place) };
@@ -166,39 +167,62 @@ pub(crate) fn readings(place: u32, p: &Part) -> Result<Readings, Refusal> {
     Ok(readings)
 }
 
-/// "G = 10 CO2 + wc CO + wh HC in bag units."
-pub(crate) fn g(s: &Sheet, r: &Readings) -> i128 {
+/// "G = 10 CO2 + wc CO + wh HC in bag units, Q = 2,560,000 D."
+fn g_and_q(s: &Sheet, r: &Readings) -> (i128, i128) {
     let [hc, co, _, co2] = r.bag;
-    10 * co2 + i128::from(s.wc) * co + i128::from(s.wh) * hc
+    let g = 10 * co2 + i128::from(s.wc) * co + i128::from(s.wh) * hc;
+    (g, 2_560_000 * i128::from(s.d))
 }
 
-/// "Q = 2,560,000 D."
-pub(crate) fn q(s: &Sheet) -> i128 {
-    2_560_000 * i128::from(s.d)
+/// "G must be below Q."
+fn lean_enough(s: &Sheet, r: &Readings) -> bool {
+    let (g, q) = g_and_q(s, r);
+    g < q
 }
 
-/// g and B of the humidity, in mPa.
-pub(crate) fn pressures(p: &Part) -> (i128, i128) {
-    let vapour = i128::from(p.humidity) * i128::from(p.saturation);
-    (vapour, 1000 * i128::from(p.pa) - vapour)
+/// "g = fields 6 x 7, B = 1,000 Pa - g."
+fn g_and_b(p: &Part) -> (i128, i128) {
+    let g = i128::from(p.humidity) * i128::from(p.saturation);
+    (g, 1000 * i128::from(p.pa) - g)
 }
 
-/// "H at most 30", with H = 6,211 g / (10 B).
+/// "H at most 30", with document 001's H = 6,211 g / (10 B).
 fn dry_enough(p: &Part) -> bool {
-    let (vapour, dry) = pressures(p);
-    6211 * vapour <= 300 * dry
+    let (g, b) = g_and_b(p);
+    6211 * g <= 300 * b
 }
 
-/// In 1/65,536.
+/// "Kh in 1/65,536", with document 001's H: 10^6 B / (1,352,030 B - 20,434,190 g).
 fn kh(p: &Part) -> Figure {
-    let (vapour, dry) = pressures(p);
-    Figure::of(65_536 * 1_000_000 * dry, 1_352_030 * dry - 20_434_190 * vapour)
+    let (g, b) = g_and_b(p);
+    Figure::of(65_536 * 1_000_000 * b, 1_352_030 * b - 20_434_190 * g)
 }
 
-/// In ml.
+/// "Volume, ml", with document 001's constants: fields 1 x 2 x (Pa - Pi) x 5,863 / (101,325 (2 T + 5,463)).
 fn volume(p: &Part) -> Figure {
-    let swept = i128::from(p.pump) * i128::from(p.revolutions) * (i128::from(p.pa) - i128::from(p.pi));
-    Figure::of(swept * 5863, 101_325 * (2 * i128::from(p.t) + 5463))
+    let pumped = i128::from(p.pump) * i128::from(p.revolutions);
+    let pressure = i128::from(p.pa) - i128::from(p.pi);
+    Figure::of(pumped * pressure * 5863, 101_325 * (2 * i128::from(p.t) + 5463))
+}
+
+/// "Corrected concentration, signed, 1/4,096 ppm: 16 (bag Q - air (Q - G)) / Q."
+fn concentration(bag: i128, air: i128, g: i128, q: i128) -> Figure {
+    Figure::of(16 * (bag * q - air * (q - g)), q)
+}
+
+/// "Gas volume, microlitres: volume x concentration / 4,096,000."
+fn gas_volume(volume: Figure, concentration: Figure) -> Figure {
+    volume.times(concentration, 4_096_000)
+}
+
+/// "Mass, micrograms: gas volume x density / 10^6."
+fn mass(gas_volume: Figure, density: u32) -> Figure {
+    gas_volume.scaled(density, 1_000_000)
+}
+
+/// "Rate, micrograms/km: 1,000 x mass / distance."
+fn rate(mass: Figure, distance: u32) -> Figure {
+    mass.scaled(1000, i128::from(distance))
 }
 
 /// The volume in ml, the masses in micrograms and the rates in micrograms/km.
@@ -209,21 +233,18 @@ pub struct PartResult {
     pub rate: [Figure; 4],
 }
 
-fn part_result(s: &Sheet, p: &Part, r: &Readings) -> PartResult {
-    let (g, q, volume) = (g(s, r), q(s), volume(p));
-    let mass = std::array::from_fn(|gas| {
-        let concentration = Figure::of(16 * (r.bag[gas] * q - r.air[gas] * (q - g)), q);
-        let mass = volume.times(concentration, 4_096_000).scaled(p.density[gas], 1_000_000);
-        if gas == NOX {
-            mass.times(kh(p), 65_536)
-        } else {
-            mass
-        }
-    });
-    PartResult { volume, mass, rate: mass.map(|mass| mass.scaled(1000, i128::from(p.distance))) }
-}
-
 pub(crate) const NOX: usize = 2;
+
+fn part_result(s: &Sheet, p: &Part, r: &Readings) -> PartResult {
+    let volume = volume(p);
+    let (g, q) = g_and_q(s, r);
+    let mut mass = std::array::from_fn(|gas| {
+        let concentration = concentration(r.bag[gas], r.air[gas], g, q);
+        mass(gas_volume(volume, concentration), p.density[gas])
+    });
+    mass[NOX] = mass[NOX].times(kh(p), 65_536);
+    PartResult { volume, mass, rate: mass.map(|mass| rate(mass, p.distance)) }
+}
 
 #[derive(Clone, Copy, Debug, PartialEq, Eq)]
 pub enum Verdict {
@@ -232,6 +253,7 @@ pub enum Verdict {
     Undecided,
 }
 
+/// "Pass, upper end at or below the limit; fail, lower end above; else undecided."
 fn verdict(weighted: &Figure, limit: u64) -> Verdict {
     let limit = i128::from(limit);
     if weighted.upper <= limit {
@@ -252,33 +274,104 @@ pub struct TestResult {
     pub fuel: Figure,
 }
 
-/// "Class 1, parts 50 and 50 percent; class 2, 30 and 70; class 3, 25, 50 and 25."
-pub(crate) fn weights(class: u32) -> &'static [u32] {
-    match class {
-        1 => &[50, 50],
-        2 => &[30, 70],
-        _ => &[25, 50, 25],
-    }
+/// The readings of every part of the class, or the first of the refusals 10 to 14. Parts past the class's number are not read.
+pub(crate) fn judge(s: &Sheet) -> Result<Vec<Readings>, Refusal> {
+    check(weights(s.class).is_some_and(|weights| weights.len() == s.count as usize), nowhere(10))?;
+    let parts = || (1..).zip(&s.parts[..s.count as usize]);
+    judge_test(s)?;
+    parts().try_for_each(|(place, part)| judge_part(place, part))?;
+    let readings = parts().map(|(place, part)| readings(place, part)).collect::<Result<Vec<Readings>, Refusal>>()?;
+    (1..).zip(&readings).try_for_each(|(place, readings)| check(lean_enough(s, readings), at(13, place)))?;
+    parts().try_for_each(|(place, part)| check(dry_enough(part), at(14, place)))?;
+    Ok(readings)
 }
 
-/// The full result of a test, or the first of the refusals 10 to 14. Parts past the class's number are not read.
+/// The full result of a test, or the first of the refusals 10 to 14.
 pub fn test(s: &Sheet) -> Result<TestResult, Refusal> {
-    check(parts_of(s.class) == Some(s.count), nowhere(10))?;
-    let parts = &s.parts[..s.count as usize];
-    let places = || (1..).zip(parts);
-    judge_test(s)?;
-    places().try_for_each(|(place, part)| judge_part(place, part))?;
-    let readings = places().map(|(place, part)| readings(place, part)).collect::<Result<Vec<Readings>, Refusal>>()?;
-    (1..).zip(&readings).try_for_each(|(place, readings)| check(g(s, readings) < q(s), at(13, place)))?;
-    places().try_for_each(|(place, part)| check(dry_enough(part), at(14, place)))?;
-    let parts: Vec<PartResult> = parts.iter().zip(&readings).map(|(part, readings)| part_result(s, part, readings)).collect();
-    let weighted: [Figure; 4] = std::array::from_fn(|gas| {
-        let rates = parts.iter().map(|part| part.rate[gas]);
-        combined(&weights(s.class).iter().copied().zip(rates).collect::<Vec<_>>(), 100)
-    });
-    let [hc, co, _, co2] = weighted;
-    let [f1, f2, f3] = s.f.map(|f| s.k * f);
-    let fuel = combined(&[(f1, hc), (f2, co), (f3, co2)], 10_000 * i128::from(s.fuel_density));
+    let readings = judge(s)?;
+    let parts: Vec<PartResult> = s.parts.iter().zip(&readings).map(|(part, readings)| part_result(s, part, readings)).collect();
+    let weighted = std::array::from_fn(|gas| weighted(s.class, parts.iter().map(|part| part.rate[gas])));
     let verdicts = std::array::from_fn(|gas| verdict(&weighted[gas], s.limits[gas]));
-    Ok(TestResult { parts, weighted, verdicts, fuel })
+    Ok(TestResult { parts, weighted, verdicts, fuel: fuel(s, weighted) })
+}
+
+/// The parts' rates of one gas by the weights of a class that there is.
+fn weighted(class: u32, rates: impl Iterator<Item = Figure>) -> Figure {
+    let weights = weights(class).unwrap().iter().copied();
+    combined(&weights.zip(rates).collect::<Vec<_>>(), 100)
+}
+
+/// "k (f1 HC + f2 CO + f3 CO2) / (10,000 x fuel density), from the weighted ends."
+fn fuel(s: &Sheet, [hc, co, _, co2]: [Figure; 4]) -> Figure {
+    let [f1, f2, f3] = s.f.map(|f| s.k * f);
+    combined(&[(f1, hc), (f2, co), (f3, co2)], 10_000 * i128::from(s.fuel_density))
+}
+
+#[cfg(test)]
+mod known_figures {
+    //! 01's known figures; where document 001's constants decide, as docs/DECISIONS.md has them.
+
+    use super::*;
+
+    fn ends(figure: Figure) -> (i128, i128) {
+        (figure.lower, figure.upper)
+    }
+
+    fn exactly(n: i128) -> Figure {
+        Figure { lower: n, upper: n }
+    }
+
+    fn part() -> Part {
+        let nothing = [Message::Ppm(0.0); 4];
+        let density = [2_050_000; 4];
+        let (pump, revolutions, pa, pi, t) = (5000, 10_000, 101_300, 0, 0);
+        Part { pump, revolutions, pa, pi, t, humidity: 0, saturation: 0, distance: 4000, density, bag: nothing, air: nothing }
+    }
+
+    fn sheet(d: u32, wc: u32, wh: u32) -> Sheet {
+        Sheet { class: 1, count: 2, d, wc, wh, k: 1154, f: [0, 0, 273], fuel_density: 750, limits: [0; 4], parts: [part(); 3] }
+    }
+
+    #[test]
+    fn volumes_and_masses() {
+        assert_eq!(ends(volume(&part())), (53_647_752, 53_647_753));
+        let cold = volume(&Part { t: -300, ..part() });
+        assert_eq!(ends(cold), (60_266_845, 60_266_846));
+        let (sheet, nox) = (sheet(145, 0, 0), |x| units(Message::Ppm(x)).unwrap());
+        let readings = Readings { bag: [0, 0, nox(10.0), nox(14_500.0)], air: [0, 0, nox(20.0), 0] };
+        let (g, q) = g_and_q(&sheet, &readings);
+        let below_zero = concentration(readings.bag[NOX], readings.air[NOX], g, q);
+        assert_eq!(ends(below_zero), (-32_768, -32_768));
+        assert_eq!(ends(gas_volume(cold, below_zero)), (-482_135, -482_134));
+        assert_eq!(ends(mass(gas_volume(cold, below_zero), 2_050_000)), (-988_377, -988_374));
+    }
+
+    #[test]
+    fn humidity() {
+        assert_eq!(ends(kh(&part())), (48_472, 48_473));
+        assert_eq!(ends(kh(&Part { humidity: 500, saturation: 3169, pa: 101_325, ..part() })), (63_787, 63_788));
+    }
+
+    #[test]
+    fn results() {
+        assert_eq!(ends(rate(exactly(1_000_001), 4000)), (250_000, 250_001));
+        let both = weighted(2, [exactly(100), exactly(201)].into_iter());
+        assert_eq!(ends(both), (170, 171));
+        assert_eq!([169, 170, 171].map(|limit| verdict(&both, limit)), [Verdict::Fail, Verdict::Undecided, Verdict::Pass]);
+        let co2 = [exactly(0), exactly(0), exactly(0), exactly(50_000_000)];
+        assert_eq!(ends(fuel(&sheet(134, 10, 10), co2)), (2_100_280, 2_100_280));
+    }
+
+    #[test]
+    fn readings_and_dilution() {
+        assert_eq!([512.0, 1024.0].map(|part| units(Message::Ppm(1.0 / part))), [Some(1), Some(0)]);
+        let full = |co| {
+            let bag = [Message::Ppm(65_536.0), Message::Ppm(co), Message::Ppm(0.0), Message::Ppm(65_536.0)];
+            let mut sheet = sheet(145, 5, 10);
+            sheet.parts[1] = Part { bag, ..part() };
+            test(&sheet)
+        };
+        assert_eq!(full(27_856.0).unwrap_err(), at(13, 2));
+        assert!(full(27_855.0).is_ok());
+    }
 }

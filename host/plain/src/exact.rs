@@ -1,7 +1,8 @@
-//! The figures of a test as fractions: what they are with no rounding after the readings' units.
+//! The figures of a test by document 001's equations as they are printed, in its own units and as fractions: what they are with no rounding after the
+//! readings' units. None of 01's whole-number forms is used, so that a slip in one of those shows here.
 
-use crate::bags::{g, pressures, q, readings, weights, Part, Readings, Sheet, NOX};
-use crate::fraction::Fraction;
+use crate::bags::{judge, weights, Part, Readings, Sheet, NOX};
+use crate::fraction::{decimal, Fraction};
 
 /// The figures of a part, in the units of [`crate::bags::PartResult`].
 pub struct ExactPart {
@@ -17,37 +18,70 @@ pub struct ExactTest {
     pub fuel: Fraction,
 }
 
-/// Pump volume times revolutions, brought to the reference state; both temperatures are doubled tenths of a kelvin.
+fn whole(n: impl Into<i128>) -> Fraction {
+    Fraction::new(n.into(), 1)
+}
+
+fn tenths(n: impl Into<i128>) -> Fraction {
+    Fraction::new(n.into(), 10)
+}
+
+/// Thousandths: kPa of Pa, km of m, kg/litre of g/l.
+fn thousandths(n: impl Into<i128>) -> Fraction {
+    Fraction::new(n.into(), 1000)
+}
+
+/// Millionths: cubic metres of ml, kg of mg.
+fn millionths(n: impl Into<i128>) -> Fraction {
+    Fraction::new(n.into(), 1_000_000)
+}
+
+/// A reading in ppm; its units are 1/256 ppm.
+fn ppm(units: i128) -> Fraction {
+    Fraction::new(units, 256)
+}
+
+/// Equation 8-1, in cubic metres.
 fn volume(p: &Part) -> Fraction {
-    let swept = i128::from(p.pump) * i128::from(p.revolutions) * (i128::from(p.pa) - i128::from(p.pi));
-    Fraction::new(5863 * swept, 101_325 * (2 * i128::from(p.t) + 5463))
+    let pressure = thousandths(p.pa).minus(thousandths(p.pi));
+    let pumped = millionths(p.pump).times(whole(p.revolutions));
+    decimal("293.15").times(pumped).times(pressure).over(decimal("101.325").times(tenths(p.t).plus(decimal("273.15"))))
 }
 
-/// Bag less air times (1 - 1/DF), in units of 1/256 ppm; 1/DF is G/Q.
-fn concentration(bag: i128, air: i128, g: i128, q: i128) -> Fraction {
-    Fraction::new(bag * q - air * (q - g), q)
+/// 1/DF by equation 8-12, CO2 in percent and CO and HC in ppm; the sheet has 13.4, and what CO and HC count for, in tenths.
+fn one_over_df(s: &Sheet, r: &Readings) -> Fraction {
+    let [hc, co, _, co2] = r.bag.map(ppm);
+    let ppm_in_percent = decimal("0.0001");
+    let rest = tenths(s.wc).times(co).plus(tenths(s.wh).times(hc));
+    co2.times(ppm_in_percent).plus(rest.times(ppm_in_percent)).over(tenths(s.d))
 }
 
-/// 1 / (1 - 0.0329 (H - 10.7)) with H = 6,211 g / (10 B).
+/// Equations 8-3, 8-5, 8-7 and 8-11, in ppm.
+fn corrected(bag: i128, air: i128, one_over_df: Fraction) -> Fraction {
+    ppm(bag).minus(ppm(air).times(whole(1).minus(one_over_df)))
+}
+
+/// Equations 8-8 and 8-9, with the humidity U in percent and the pressures in kPa.
 fn kh(p: &Part) -> Fraction {
-    let (vapour, dry) = pressures(p);
-    Fraction::new(1_000_000 * dry, 1_352_030 * dry - 20_434_190 * vapour)
+    let (u, pd) = (tenths(p.humidity), thousandths(p.saturation));
+    let h = decimal("6.211").times(u).times(pd).over(thousandths(p.pa).minus(pd.times(u).over(whole(100))));
+    whole(1).over(whole(1).minus(decimal("0.0329").times(h.minus(decimal("10.7")))))
+}
+
+/// Equations 8-2, 8-4, 8-6 and 8-10 without the distance: kg, from densities in kg per cubic metre.
+fn mass(s: &Sheet, p: &Part, r: &Readings, gas: usize) -> Fraction {
+    let concentration = corrected(r.bag[gas], r.air[gas], one_over_df(s, r));
+    let mass = concentration.times(volume(p)).times(millionths(p.density[gas])).over(whole(1_000_000));
+    if gas == NOX {
+        mass.times(kh(p))
+    } else {
+        mass
+    }
 }
 
 fn exact_part(s: &Sheet, p: &Part, r: &Readings) -> ExactPart {
-    let (g, q, volume) = (g(s, r), q(s), volume(p));
-    let mass = std::array::from_fn(|gas| {
-        // ml, times parts of 1/(256 x 10^6), times mg in 10^6 ml, in micrograms
-        let density = Fraction::new(i128::from(p.density[gas]), 256 * 1_000_000_000);
-        let mass = volume.times(concentration(r.bag[gas], r.air[gas], g, q)).times(density);
-        if gas == NOX {
-            mass.times(kh(p))
-        } else {
-            mass
-        }
-    });
-    let rate = mass.map(|mass| mass.times(Fraction::new(1000, i128::from(p.distance))));
-    ExactPart { volume, mass, rate }
+    let mass = std::array::from_fn(|gas| mass(s, p, r, gas).times(whole(1_000_000_000)));
+    ExactPart { volume: volume(p).times(whole(1_000_000)), mass, rate: mass.map(|mass| mass.over(thousandths(p.distance))) }
 }
 
 /// The sum of some, which are not none.
@@ -55,16 +89,19 @@ fn sum(each: impl Iterator<Item = Fraction>) -> Fraction {
     each.reduce(Fraction::plus).unwrap()
 }
 
+/// Equation 8-14: litres in 100 km from grams in 1 km, and so microlitres from micrograms.
+fn fuel(s: &Sheet, [hc, co, _, co2]: [Fraction; 4]) -> Fraction {
+    let carbon = sum(s.f.into_iter().zip([hc, co, co2]).map(|(f, gas)| thousandths(f).times(gas)));
+    Fraction::new(s.k.into(), 10_000).over(thousandths(s.fuel_density)).times(carbon)
+}
+
 /// The exact figures of a sheet that [`crate::bags::test`] accepts.
 pub fn exact(s: &Sheet) -> ExactTest {
-    let of_part = |(place, part)| exact_part(s, part, &readings(place, part).unwrap());
-    let parts: Vec<ExactPart> = (1..).zip(&s.parts[..s.count as usize]).map(of_part).collect();
-    let weighted: [Fraction; 4] = std::array::from_fn(|gas| {
-        let weigh = |(&weight, part): (&u32, &ExactPart)| part.rate[gas].times(Fraction::new(i128::from(weight), 100));
-        sum(weights(s.class).iter().zip(&parts).map(weigh))
+    let readings = judge(s).unwrap();
+    let parts: Vec<ExactPart> = s.parts.iter().zip(&readings).map(|(part, readings)| exact_part(s, part, readings)).collect();
+    let weighted = std::array::from_fn(|gas| {
+        let weigh = |(&weight, part): (&u32, &ExactPart)| part.rate[gas].times(Fraction::new(weight.into(), 100));
+        sum(weights(s.class).unwrap().iter().zip(&parts).map(weigh))
     });
-    let [hc, co, _, co2] = weighted;
-    let carbon = |(f, gas): (u32, Fraction)| gas.times(Fraction::new(i128::from(f), 1));
-    let burnt = sum(s.f.into_iter().zip([hc, co, co2]).map(carbon));
-    ExactTest { parts, weighted, fuel: burnt.times(Fraction::new(i128::from(s.k), 10_000 * i128::from(s.fuel_density))) }
+    ExactTest { parts, weighted, fuel: fuel(s, weighted) }
 }

@@ -2,7 +2,7 @@
 
 use std::cmp::Ordering;
 
-/// A fraction that nothing reduces. The widest is a weighted NOx over three parts, of about 600 bits; a product that does not fit stops the run.
+/// A fraction that nothing reduces. The widest is a weighted NOx over three parts, of about 900 bits; a product that does not fit stops the run.
 #[derive(Clone, Copy, Debug)]
 pub struct Fraction {
     numerator: Wide,
@@ -35,6 +35,16 @@ impl Fraction {
         Fraction { numerator: self.numerator.times(other.numerator), denominator: self.denominator.times(other.denominator) }
     }
 
+    pub fn minus(self, other: Fraction) -> Fraction {
+        self.plus(other.times(Fraction::new(-1, 1)))
+    }
+
+    /// For a divisor above zero.
+    pub fn over(self, divisor: Fraction) -> Fraction {
+        assert!(divisor.numerator.cmp(Wide::from(0)) == Ordering::Greater);
+        self.times(Fraction { numerator: divisor.denominator, denominator: divisor.numerator })
+    }
+
     /// Whether it is at least the one and at most the other.
     pub fn between(self, lower: i128, upper: i128) -> bool {
         let multiple = |n: i128| Wide::from(n).times(self.denominator);
@@ -42,7 +52,18 @@ impl Fraction {
     }
 }
 
-const WORDS: usize = 12;
+/// A decimal as a paper prints it.
+///
+/// ```
+/// let printed = plain::fraction::decimal("0.0329");
+/// assert!(printed.times(plain::fraction::decimal("10000")).between(329, 329));
+/// ```
+pub fn decimal(text: &str) -> Fraction {
+    let (whole, places) = text.split_once('.').unwrap_or((text, ""));
+    Fraction::new(format!("{whole}{places}").parse().unwrap(), 10_i128.pow(places.len() as u32))
+}
+
+const WORDS: usize = 16;
 
 /// A whole number: its sign, and its magnitude in words, the lowest first. Zero is not negative.
 #[derive(Clone, Copy, Debug, PartialEq, Eq)]
