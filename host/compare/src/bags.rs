@@ -50,13 +50,26 @@ pub fn read(line: &str) -> (Sheet, Answer) {
     }
 }
 
+/// The answer as a line of vectors/bags.txt has it after the sheet.
+pub fn answer_text(([number, at, within, side], figures): &Answer) -> String {
+    if *number != 0 {
+        return format!("refused {number} {at} {within} {side}");
+    }
+    let word = |(place, figure): (usize, &i128)| match place {
+        2 | 5 | 8 | 11 => format!(" {}", VERDICTS[*figure as usize]),
+        _ => format!(" {figure}"),
+    };
+    "result".to_string() + &figures.iter().enumerate().map(word).collect::<String>()
+}
+
+/// The verdicts' words, in the order of their numbers in an [`Answer`].
+const VERDICTS: [&str; 3] = ["pass", "fail", "undecided"];
+
 /// A number, or a verdict's.
 fn figure(word: &str) -> i128 {
-    match word {
-        "pass" => 0,
-        "fail" => 1,
-        "undecided" => 2,
-        number => number.parse().unwrap(),
+    match VERDICTS.iter().position(|verdict| *verdict == word) {
+        Some(verdict) => verdict as i128,
+        None => word.parse().unwrap(),
     }
 }
 
@@ -347,14 +360,20 @@ fn odd(random: &mut Random, least: u32, most: u32) -> u32 {
     }
 }
 
-/// One of a gas's numbers.
-fn of_gas<'a, T>(random: &mut Random, gases: &'a mut Gases<T>) -> &'a mut T {
-    match random.below(4) {
-        0 => &mut gases.hc,
-        1 => &mut gases.co,
-        2 => &mut gases.nox,
-        _ => &mut gases.co2,
+/// What a gas has, by its number from 1 on.
+pub fn of_gas<T>(gases: &mut Gases<T>, gas: u32) -> &mut T {
+    match gas {
+        1 => &mut gases.hc,
+        2 => &mut gases.co,
+        3 => &mut gases.nox,
+        4 => &mut gases.co2,
+        _ => panic!("there is no gas {gas}"),
     }
+}
+
+/// What one of the gases has.
+fn of_any<'a, T>(random: &mut Random, gases: &'a mut Gases<T>) -> &'a mut T {
+    of_gas(gases, random.from(1, 4))
 }
 
 fn damage_part(random: &mut Random, p: &mut Part) {
@@ -368,9 +387,9 @@ fn damage_part(random: &mut Random, p: &mut Part) {
         6 => p.humidity = odd(random, 0, 1000),
         7 => p.saturation = odd(random, 0, 12_000),
         8 => p.distance = odd(random, 100, 100_000),
-        9 => *of_gas(random, &mut p.density) = odd(random, 1, 2_100_000),
-        10 | 11 => *of_gas(random, &mut p.bag) = odd_reading(random),
-        _ => *of_gas(random, &mut p.air) = odd_reading(random),
+        9 => *of_any(random, &mut p.density) = odd(random, 1, 2_100_000),
+        10 | 11 => *of_any(random, &mut p.bag) = odd_reading(random),
+        _ => *of_any(random, &mut p.air) = odd_reading(random),
     }
 }
 
@@ -388,7 +407,7 @@ fn damage(random: &mut Random, s: &mut Sheet) {
             let factors = [&mut s.fuel.hc, &mut s.fuel.co, &mut s.fuel.co2];
             *factors.into_iter().nth(random.below(3) as usize).unwrap() = factor;
         }
-        8 => *of_gas(random, &mut s.limits) = random.one_of(&[1_000_000_000_000, 1_000_000_000_001, u64::MAX]),
+        8 => *of_any(random, &mut s.limits) = random.one_of(&[1_000_000_000_000, 1_000_000_000_001, u64::MAX]),
         _ => {
             let part = random.below(3) as usize;
             damage_part(random, &mut s.parts[part]);

@@ -5,8 +5,9 @@ use std::fmt;
 use plain::gear::{speeds, Speeds};
 use ylhovesko::gear::Vehicle;
 
+use crate::pairs::Pair;
 use crate::random::Random;
-use crate::{core_told, hex, plain_told, Told};
+use crate::{core_told, hex, plain_told, unhex, Told};
 
 /// A call of the gear sheet. The buffer's bytes are noise, so that a byte written where none should be is seen.
 #[derive(Clone, PartialEq, Eq)]
@@ -21,22 +22,48 @@ pub struct Case {
 impl fmt::Display for Case {
     fn fmt(&self, f: &mut fmt::Formatter) -> fmt::Result {
         let Vehicle { power, mass, rated, idle, gears, ndv } = self.vehicle;
-        let trace = if self.trace.is_empty() { "-".into() } else { hex(&self.trace) };
-        write!(f, "{trace} {power} {mass} {rated} {idle} {gears}")?;
+        write!(f, "{} {power} {mass} {rated} {idle} {gears}", hex(&self.trace))?;
         ndv.iter().try_for_each(|each| write!(f, " {each}"))?;
         write!(f, " {} {}", self.buffer.len(), self.start)
     }
 }
 
+/// What an implementation says of a case, and the buffer after it.
+pub type Answer = (Told, Vec<u8>);
+
+/// The case and the answer of a line of vectors/gear.txt, or of a file of its form; the line's number is the seed of the buffer's noise.
+pub fn read(line: u64, text: &str) -> (Case, Answer) {
+    let words: Vec<&str> = text.split(' ').collect();
+    assert_eq!(words.len(), 19, "line {line}");
+    let n: Vec<usize> = words[1..18].iter().map(|word| word.parse().unwrap()).collect();
+    let [power, mass, rated, idle, gears] = [n[0], n[1], n[2], n[3], n[4]].map(|each| each as u32);
+    let ndv = std::array::from_fn(|gear| n[5 + gear] as u32);
+    let vehicle = Vehicle { power, mass, rated, idle, gears, ndv };
+    let case = Case { trace: unhex(words[0]), vehicle, buffer: Random::new(line).bytes(n[13]), start: n[14] };
+    let row = unhex(words[18]);
+    let mut written = case.buffer.clone();
+    if n[15] == 0 {
+        written[case.start..case.start + row.len()].copy_from_slice(&row);
+        assert_eq!(row.len(), (case.trace.len() - 8) / 2, "line {line}");
+    }
+    (case, ([n[15] as u32, n[16] as u32, 0, 0], written))
+}
+
+/// The answer as a line of vectors/gear.txt has it after the case.
+pub fn answer_text(case: &Case, (told, written): &Answer) -> String {
+    let row = if told[0] == 0 { &written[case.start..case.start + (case.trace.len() - 8) / 2] } else { &[] };
+    format!("{} {} {}", told[0], told[1], hex(row))
+}
+
 /// What the proved core says, and the buffer after it.
-pub fn by_core(case: &Case) -> (Told, Vec<u8>) {
+pub fn by_core(case: &Case) -> Answer {
     let mut buffer = case.buffer.clone();
     let told = ylhovesko::gear::gears(&case.trace, case.vehicle, &mut buffer, case.start);
     (core_told(told), buffer)
 }
 
 /// What the second implementation says, and the buffer after it.
-pub fn by_plain(case: &Case) -> (Told, Vec<u8>) {
+pub fn by_plain(case: &Case) -> Answer {
     let mut buffer = case.buffer.clone();
     let told = plain::gear::write_gears(&case.trace, &plain_vehicle(&case.vehicle), &mut buffer, case.start);
     (plain_told(told), buffer)
@@ -192,7 +219,8 @@ fn count(random: &mut Random) -> usize {
     }
 }
 
-fn house_file(seconds: &[u8]) -> Vec<u8> {
+/// The house file of so many seconds, four bytes each.
+pub fn house_file(seconds: &[u8]) -> Vec<u8> {
     let count = (seconds.len() / 4) as u16;
     [b"WTR\0", &[1, 0][..], &count.to_le_bytes(), seconds].concat()
 }
@@ -268,8 +296,8 @@ pub fn case(seed: u64) -> Case {
     Case { trace, vehicle, buffer: random.bytes(length), start }
 }
 
-/// A random pair of traces, often of the same count, and the switch.
-pub fn pair(seed: u64) -> (Vec<u8>, Vec<u8>, bool) {
+/// The random pair of traces of a seed, often of the same count.
+pub fn pair(seed: u64) -> Pair {
     let mut random = Random::new(seed);
     let random = &mut random;
     let style = Style { preferred: Vec::new(), steady: 4, marks: 2 };
@@ -282,5 +310,5 @@ pub fn pair(seed: u64) -> (Vec<u8>, Vec<u8>, bool) {
     if random.once_in(4) {
         damage_trace(random, &mut reduced);
     }
-    (normal, reduced, random.once_in(2))
+    Pair { normal, reduced }
 }

@@ -1,7 +1,9 @@
 //! Holds the proved core against stored cases and against the second implementation: what both tests need. A sheet has its own module.
 
 pub mod bags;
+pub mod directed;
 pub mod gear;
+pub mod pairs;
 pub mod random;
 
 /// An outcome as four numbers: 0 or the refusal's number, and its place.
@@ -17,6 +19,11 @@ pub fn plain_told(answer: Result<(), plain::Refusal>) -> Told {
     answer.map_or_else(|r| [r.number, r.at, r.within, r.side], |()| [0; 4])
 }
 
+/// The lines of a file of stored cases with their numbers from 1 on; those with '#' are for the reader.
+pub fn stored(text: &str) -> impl Iterator<Item = (u64, &str)> {
+    (1..).zip(text.lines()).filter(|(_, text)| !text.starts_with('#'))
+}
+
 /// How many random cases a test runs: the environment variable's number, or else `usual`.
 ///
 /// ```
@@ -29,12 +36,15 @@ pub fn cases(variable: &str, usual: u64) -> u64 {
     }
 }
 
-/// Bytes as two hexadecimal digits each, as the stored cases have them.
+/// Bytes as two hexadecimal digits each, as the stored cases have them; "-" where there are none.
 pub fn hex(bytes: &[u8]) -> String {
+    if bytes.is_empty() {
+        return "-".into();
+    }
     bytes.iter().map(|byte| format!("{byte:02x}")).collect()
 }
 
-/// The bytes of [`hex`]; "-" has none.
+/// The bytes of [`hex`].
 ///
 /// ```
 /// assert_eq!(compare::unhex("00ff"), [0, 255]);

@@ -3,16 +3,15 @@
 use std::collections::BTreeMap;
 
 use compare::bags::{by_core, by_plain, case, read, Line};
-use compare::cases;
+use compare::{cases, stored};
 use plain::preset::{DIESEL, PETROL};
 use ylhovesko::bags::{diesel, petrol};
 
 /// Every line of vectors/bags.txt: the number, the place and every figure.
 #[test]
 fn stored_cases() {
-    let text = include_str!("../../vectors/bags.txt");
     let mut lines = 0;
-    for (line, text) in (1..).zip(text.lines()).filter(|(_, text)| !text.starts_with('#')) {
+    for (line, text) in stored(include_str!("../../vectors/bags.txt")) {
         let (sheet, answer) = read(text);
         assert!(text.starts_with(&format!("{} ", Line(&sheet))), "line {line} is written otherwise: {}", Line(&sheet));
         assert_eq!(by_plain(&sheet), (answer.clone(), true), "plain, line {line}");

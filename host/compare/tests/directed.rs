@@ -1,0 +1,67 @@
+//! The directed cases: the stored text is what the generator gives, both implementations answer as stored, and no place of 01's table is left out.
+
+use std::collections::BTreeSet;
+
+use compare::{bags, directed, gear, pairs, stored, Told};
+
+const BAGS: &str = include_str!("../../vectors/directed_bags.txt");
+const GEAR: &str = include_str!("../../vectors/directed_gear.txt");
+const PAIRS: &str = include_str!("../../vectors/directed_pairs.txt");
+
+/// The generator also compares each answer of the second implementation with what 01 says.
+#[test]
+fn as_generated() {
+    let texts = directed::files().map(|(_, text)| text);
+    for (given, kept) in texts.iter().zip([BAGS, GEAR, PAIRS]) {
+        for (given, kept) in given.lines().zip(kept.lines()) {
+            assert_eq!(given, kept);
+        }
+        assert!(given == kept, "a text has more lines than the other");
+    }
+}
+
+#[test]
+fn gear_sheet() {
+    for (line, text) in stored(GEAR) {
+        let (case, answer) = gear::read(line, text);
+        assert_eq!(gear::by_core(&case), answer, "line {line}");
+    }
+}
+
+#[test]
+fn emission_sheet() {
+    for (line, text) in stored(BAGS) {
+        let (sheet, answer) = bags::read(text);
+        assert_eq!(bags::by_core(&sheet), answer, "line {line}");
+    }
+}
+
+#[test]
+fn pairs_of_traces() {
+    for (line, text) in stored(PAIRS) {
+        let (pair, answer) = pairs::read(text);
+        assert_eq!(pairs::by_core(&pair), answer, "line {line}");
+    }
+}
+
+/// Every row with every place that it can name; of the seconds the first and the last that a trace can have.
+#[test]
+fn every_place() {
+    let in_gear = stored(GEAR).map(|(line, text)| gear::read(line, text).1 .0);
+    let in_bags = stored(BAGS).map(|(_, text)| bags::read(text).1 .0);
+    let in_pairs = stored(PAIRS).map(|(_, text)| pairs::read(text).1 .0);
+    let seen: BTreeSet<Told> = in_gear.chain(in_bags).chain(in_pairs).collect();
+    let mut table: Vec<Told> = [1, 2, 3, 7, 8, 10, 15].map(|number| [number, 0, 0, 0]).to_vec();
+    table.extend([1, 2000].iter().flat_map(|&second| [4, 9].map(|number| [number, second, 0, 0])));
+    table.extend((1..=5 + 8).map(|place| [5, place, 0, 0]));
+    table.extend((2..=8).map(|gear| [6, gear, 0, 0]));
+    table.extend([10, 11, 12].map(|field| [11, 0, field, 0]));
+    for part in 1..=3 {
+        table.extend((1..=9).map(|field| [11, part, field, 0]));
+        table.extend((1..=4).flat_map(|gas| [1, 2].map(|side| [12, part, gas, side])));
+        table.extend([13, 14].map(|number| [number, part, 0, 0]));
+    }
+    for place in table {
+        assert!(seen.contains(&place), "no case has {place:?}");
+    }
+}
