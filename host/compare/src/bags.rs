@@ -187,7 +187,8 @@ fn holds_exact(result: &TestResult, exact: &ExactTest) -> bool {
     parts && all(&result.weighted, &exact.weighted) && between(&result.fuel, &exact.fuel)
 }
 
-fn plain_message(reading: Reading) -> Message {
+/// The message as the second implementation takes it.
+pub fn plain_message(reading: Reading) -> Message {
     let x = f32::from_bits(reading.bits);
     match reading.kind {
         0 => Message::Ppm(x),

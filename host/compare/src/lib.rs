@@ -55,5 +55,8 @@ pub fn unhex(text: &str) -> Vec<u8> {
         return Vec::new();
     }
     assert!(text.len().is_multiple_of(2), "half a byte: {text}");
-    (0..text.len()).step_by(2).map(|at| u8::from_str_radix(&text[at..at + 2], 16).unwrap()).collect()
+    let mut bytes: Vec<u8> = (0..text.len()).step_by(2).map(|at| u8::from_str_radix(&text[at..at + 2], 16).unwrap()).collect();
+    // so that valgrind sees a byte that is read past the last
+    bytes.shrink_to_fit();
+    bytes
 }

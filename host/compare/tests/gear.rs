@@ -4,6 +4,7 @@ use std::collections::BTreeMap;
 
 use compare::gear::{by_core, by_plain, case, pair, read};
 use compare::{cases, pairs, stored};
+use plain::gear::exponential;
 
 /// Every line of vectors/gear.txt: the number, the place and every byte of the buffer.
 #[test]
@@ -42,4 +43,25 @@ fn random_pairs() {
         let pair = pair(seed);
         assert_eq!(pairs::by_core(&pair), pairs::by_plain(&pair), "seed {seed}");
     }
+}
+
+/// Over all accepted pairs of P and m. An engine speed is 10 x 2^32 times a whole number, so it is at a side only where 5,753 e (s - n) is a multiple
+/// of 10 x 2^32, and e (s - n) with it. No upper side can be reached exactly, and a lower one with four pairs alone.
+#[test]
+fn sides_that_an_engine_speed_can_reach() {
+    let unit = 10_i128 << 32;
+    // the least s - n that makes the multiple; s - n is 500 to 19,700
+    let least = |e: i128| unit / ((1 << e.trailing_zeros().min(33)) * if e % 5 == 0 { 5 } else { 1 });
+    let (mut pairs, mut lower, mut upper) = (0, Vec::new(), Vec::new());
+    for m in 30..=1000 {
+        for p in (1..=3000).take_while(|p| 19 * p <= 150 * (m + 75)) {
+            let ends = exponential(p, m);
+            pairs += 1;
+            [(ends.0, &mut lower), (ends.1, &mut upper)]
+                .into_iter()
+                .filter(|(e, _)| least(*e) <= 19_700)
+                .for_each(|(_, list)| list.push((p, m)));
+        }
+    }
+    assert_eq!((pairs, lower, upper), (2_613_264, vec![(1612, 428), (2843, 453), (2514, 860), (2547, 997)], vec![]));
 }

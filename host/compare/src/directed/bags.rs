@@ -2,7 +2,7 @@
 
 use ylhovesko::bags::{Fuel, Gases, Part, Reading, Sheet, Triple};
 
-use crate::bags::{answer_text, by_plain, of_gas, Line};
+use crate::bags::{answer_text, by_plain, of_gas, plain_message, Line};
 use crate::Told;
 
 /// A sheet, what is to be seen in it, and what 01 says of it: the refusal, and the figures that are known, each by its place in the answer.
@@ -65,8 +65,14 @@ fn reading_words([place, gas, side]: [u32; 3]) -> String {
 }
 
 /// Every reading of a sheet in 01's order: part, gas, bag before air.
-fn readings() -> impl Iterator<Item = [u32; 3]> {
-    (1..=3).flat_map(|place| (1..=4).flat_map(move |gas| [1, 2].map(|side| [place, gas, side])))
+fn readings() -> Vec<[u32; 3]> {
+    let mut all = Vec::new();
+    for place in 1..=3 {
+        for gas in 1..=4 {
+            all.extend([[place, gas, 1], [place, gas, 2]]);
+        }
+    }
+    all
 }
 
 /// A row of the table, and the numbers of its place.
@@ -221,7 +227,7 @@ fn products(cases: &mut Cases) {
             let (words, change) = pumped(pump, revolutions);
             cases.taken(&words, change);
         }
-        for (pump, revolutions) in [(20_000, 50_001), (10_001, 100_000), (15_873, 63_001), (20_000, 100_000)] {
+        for (pump, revolutions) in [(19_019, 52_579), (20_000, 50_001), (10_001, 100_000), (20_000, 100_000)] {
             let (words, change) = pumped(pump, revolutions);
             cases.refused([11, place, 2, 0], &words, change);
         }
@@ -250,24 +256,24 @@ const UNUSABLE: [(&str, u32, u32); 18] = [
     ("the largest float, in percent", 1, 0x7f7f_ffff),
 ];
 
-/// Messages that are usable, at the limit, at a half of a unit and at zero.
-const USABLE: [(&str, u32, u32); 16] = [
-    ("65,536 ppm, 16,777,216 units", 0, 0x4780_0000),
-    ("one float less, 16,777,215 units", 0, 0x477f_ffff),
-    ("the last float to 6.5536 percent, 16,777,216 units", 1, 0x40d1_b717),
-    ("one float less, 16,777,214 units", 1, 0x40d1_b716),
-    ("1/512 ppm, 1 unit", 0, 0x3b00_0000),
-    ("the float before 1/512 ppm, no unit", 0, 0x3aff_ffff),
-    ("1/1,024 ppm, no unit", 0, 0x3a80_0000),
-    ("3/512 ppm, 2 units", 0, 0x3bc0_0000),
-    ("1/8,192 percent, 313 units", 1, 0x3900_0000),
-    ("the float before 1/8,192 percent, 312 units", 1, 0x38ff_ffff),
-    ("zero ppm", 0, 0),
-    ("minus zero ppm", 0, 0x8000_0000),
-    ("minus zero percent", 1, 0x8000_0000),
-    ("the least float, in percent", 1, 1),
-    ("the last float without a leading bit, in ppm", 0, 0x7f_ffff),
-    ("the first float with a leading bit, in ppm", 0, 0x80_0000),
+/// Messages that are usable, at the limit, at a half of a unit and at zero, and the units that they have.
+const USABLE: [(&str, u32, u32, i128); 16] = [
+    ("65,536 ppm", 0, 0x4780_0000, 16_777_216),
+    ("the float before 65,536 ppm", 0, 0x477f_ffff, 16_777_215),
+    ("the last float to 6.5536 percent", 1, 0x40d1_b717, 16_777_216),
+    ("the float before that", 1, 0x40d1_b716, 16_777_214),
+    ("1/512 ppm", 0, 0x3b00_0000, 1),
+    ("the float before 1/512 ppm", 0, 0x3aff_ffff, 0),
+    ("1/1,024 ppm", 0, 0x3a80_0000, 0),
+    ("3/512 ppm", 0, 0x3bc0_0000, 2),
+    ("1/8,192 percent", 1, 0x3900_0000, 313),
+    ("the float before 1/8,192 percent", 1, 0x38ff_ffff, 312),
+    ("zero ppm", 0, 0, 0),
+    ("minus zero ppm", 0, 0x8000_0000, 0),
+    ("minus zero percent", 1, 0x8000_0000, 0),
+    ("the least float, in percent", 1, 1, 0),
+    ("the last float without a leading bit, in ppm", 0, 0x7f_ffff, 0),
+    ("the first float with a leading bit, in ppm", 0, 0x80_0000, 0),
 ];
 
 /// Refusal 12.
@@ -286,9 +292,11 @@ fn messages(cases: &mut Cases) {
             cases.refused([12, place, gas, side], &format!("{words}, {}", reading_words(at)), change);
         }
     }
-    for at in [[1, 3, 1], [3, 2, 2]] {
-        for (words, kind, bits) in USABLE {
-            cases.taken(&format!("{words}, {}", reading_words(at)), |s| *reading(s, at) = Reading { kind, bits });
+    for (words, kind, bits, units) in USABLE {
+        let message = Reading { kind, bits };
+        assert_eq!(plain::bags::units(plain_message(message)), Some(units), "{words}");
+        for at in [[1, 3, 1], [3, 2, 2]] {
+            cases.taken(&format!("{words} is {units} units, {}", reading_words(at)), |s| *reading(s, at) = message);
         }
     }
 }
