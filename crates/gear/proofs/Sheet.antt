@@ -47,7 +47,7 @@ sheet-sound trace v room start e =
 pub sheet-ready : {trace : List ℕ} {v : VehicleSheet} {room start : ℕ} → Sound trace v room start → Ready (shiftOf v) trace (countOf trace)
 sheet-ready s =
     let t = s .of-trace in
-    record { usable = shift-usable (s .of-vehicle); long = omega (arith, t .exact); few = t .few; speeds = t .speeds }
+    record { usable = shift-usable (s .of-vehicle); lasts = omega (arith, t .exact); few = t .few; speeds = t .speeds }
 
 module _ (trace : List ℕ) (v : VehicleSheet) (buffer : List ℕ) (start : ℕ) where
   -- a refusal of 1 to 8 is the answer; past them the comparisons decide

@@ -1,13 +1,13 @@
 -- 01, Gear of each second, before corrections: the gears that the shift speeds give, and refusal 9. Seconds count from 0 here.
 use mathlib.Core.Bool.{not, false, cond}
 use mathlib.Core.List.{List}
-use Prim.Native.Nat.{ℕ, _+_, _*_, _≤_, _<_}
-use lib.ListN.{length, set}
+use Prim.Native.Nat.{ℕ, _+_, _≤_, _<_}
+use lib.ListN.{set}
 use Rattle.refusal.specs.declared.Judged.{Judged}
 use Rattle.refusal.specs.declared.Judged.the-variants.{Accepted, Refused}
 use Rattle.refusal.specs.declared.Refusal.the-variants.{TooClose}
 use Rattle.walk.specs.Walk.{inTurn, scan}
-use Rattle.trace.specs.House.{speedAt, flagsAt, stop, acceleration}
+use Rattle.trace.specs.House.{Lasts, speedAt, flagsAt, stop, acceleration}
 use Rattle.shift.specs.declared.Shift.{Shift}
 use Rattle.shift.specs.declared.Own.{Own}
 use Rattle.shift.specs.Speeds.{ownGear, Usable}
@@ -30,6 +30,6 @@ putOwn s trace = inTurn (λ own k. set own k (ownAt s trace k .gear))
 -- what an accepted trace and sheet give
 pub record Ready (s : Shift) (trace : List ℕ) (n : ℕ) : Type 0 where
   pub usable : Usable s
-  pub long : 8 + 4 * n ≤ length trace
+  pub lasts : Lasts trace n
   pub few : n ≤ 2000
   pub speeds : (k : ℕ) → k < n → speedAt trace k ≤ 2000

@@ -9,7 +9,7 @@ ghost use mathlib.Core.List.{_++_};
 ghost use Prim.Native.Nat.{_*_, _≤_};
 ghost use lib.ListN.{length, getD, drop};
 ghost use Rattle.refusal.specs.declared.Judged.the-variants.{Accepted};
-ghost use Rattle.row.specs.Row.{Room};
+ghost use Rattle.row.specs.Row.{HaveSeconds};
 ghost use Rattle.shift.specs.Speeds.{Usable};
 ghost use Rattle.gear.specs.Own.{ownSecond, judgeClose, putOwn, Ready};
 ghost use Rattle.gear.specs.Sheet.{rowFrom, judgeSheet, gearAnswer, ifAccepted, withRow, gearBuffer};
@@ -19,13 +19,13 @@ pub fn own_second(s: Shift, flags: u8, speed: u32) -> Own
     requires { ⌜ (Usable s) × (speed ≤ 2000) ⌝ }
     ensures { λ r. ⌜ r ≡ ownSecond s flags speed ⌝ }
 {
-    if flags % 4 == 0 {
+    if trace::is_stop(flags) {
         return Own {
             gear: 0,
             close: false,
         };
     }
-    shift::own_gear(s, flags % 4 == 1, speed)
+    shift::own_gear(s, trace::is_acceleration(flags), speed)
 }
 
 // Refusal 9, and the gears by the way, so that no comparison is made twice.
@@ -36,7 +36,7 @@ fn own_gears(s: Shift, trace: &[u8], own: &mut [u8], n: usize) -> Judged
     let mut k = 0;
     while k < n {
         let speed = trace::speed_at(trace, k) as u32;
-        let second = own_second(s, trace[4 * k + 10], speed);
+        let second = own_second(s, trace::flags_at(trace, k), speed);
         if second.close {
             let place = (k + 1) as u32;
             return Judged::Refused(Refusal::TooClose { second: place });
@@ -49,7 +49,7 @@ fn own_gears(s: Shift, trace: &[u8], own: &mut [u8], n: usize) -> Judged
 
 // The finished row, over all of a slice.
 fn finish(trace: &[u8], own: &[u8], row: &mut [u8], n: usize)
-    requires { ⌜ (Room (now trace) (now row) n) × (length (now row) ≡ 2 * n) × (n ≤ length (now own)) ⌝ }
+    requires { ⌜ (HaveSeconds (now trace) (now row) n) × (length (now row) ≡ 2 * n) × (n ≤ length (now own)) ⌝ }
     ensures { λ _. ⌜ now (row .exit) ≡ rowFrom (λ k. getD (now (own .entry)) k 0) (now (trace .entry)) n ⌝ }
 {
     phase::first_row(trace, own, row, n);
@@ -59,7 +59,7 @@ fn finish(trace: &[u8], own: &[u8], row: &mut [u8], n: usize)
 
 // The row at the front of a longer part, whose other bytes stay.
 fn into_part(trace: &[u8], own: &[u8], part: &mut [u8], n: usize)
-    requires { ⌜ (Room (now trace) (now part) n) × (n ≤ length (now own)) ⌝ }
+    requires { ⌜ (HaveSeconds (now trace) (now part) n) × (n ≤ length (now own)) ⌝ }
     ensures { λ _. ⌜ now (part .exit) ≡ rowFrom (λ k. getD (now (own .entry)) k 0) (now (trace .entry)) n ++ drop (2 * n) (now (part .entry)) ⌝ }
 {
     let m = 2 * n;

@@ -2,19 +2,20 @@
 // no vehicle.
 ghost use mathlib.Core.Path.{_≡_};
 ghost use mathlib.Core.List.{_++_};
-ghost use Prim.Native.Nat.{_+_, _-_, _*_, _≤_, _<_};
+ghost use Prim.Native.Nat.{_*_, _≤_};
 ghost use lib.ListN.{length, getD, drop};
-ghost use Rattle.row.specs.Row.{Room};
+ghost use Rattle.trace.specs.House.{Lasts};
+ghost use Rattle.row.specs.Row.{HaveSeconds};
 ghost use Rattle.phase.specs.Phase.{stopEnd, stopGear, gearBy, firstRow, clutchOf, clutched, Carried};
 
 // The end of the stop run that reaches second k.
 fn stop_end(trace: &[u8], n: usize, k: usize) -> usize
-    requires { ⌜ (8 + 4 * n ≤ length (now trace)) × (k ≤ n) ⌝ }
+    requires { ⌜ (Lasts (now trace) n) × (k ≤ n) ⌝ }
     ensures { λ r. ⌜ (r ≡ stopEnd (now (trace .entry)) n k) × (k ≤ r) ⌝ }
 {
     let mut i = k;
     while i < n {
-        if trace[4 * i + 10] % 4 != 0 {
+        if !trace::stop_at(trace, i) {
             return i;
         }
         i += 1;
@@ -24,7 +25,7 @@ fn stop_end(trace: &[u8], n: usize, k: usize) -> usize
 
 // The same, where the end of the run is carried from the second before: a run is gone through once, however long it is.
 fn stop_end_from(trace: &[u8], n: usize, k: usize, end: usize) -> usize
-    requires { ⌜ (8 + 4 * n ≤ length (now trace)) × (k ≤ n) × (Carried (now trace) n k end) ⌝ }
+    requires { ⌜ (Lasts (now trace) n) × (k ≤ n) × (Carried (now trace) n k end) ⌝ }
     ensures { λ r. ⌜ (r ≡ stopEnd (now (trace .entry)) n k) × (k ≤ r) ⌝ }
 {
     if k < end {
@@ -43,19 +44,23 @@ fn stop_gear(left: usize) -> u8
 fn first_gear(flags: u8, own: u8, left: usize) -> u8
     ensures { λ r. ⌜ r ≡ gearBy flags own left ⌝ }
 {
-    if flags % 4 == 0 { stop_gear(left) } else { own }
+    if trace::is_stop(flags) {
+        stop_gear(left)
+    } else {
+        own
+    }
 }
 
 // The row before corrections, from the gears outside stop.
 pub fn first_row(trace: &[u8], own: &[u8], row: &mut [u8], n: usize)
-    requires { ⌜ (Room (now trace) (now row) n) × (n ≤ length (now own)) ⌝ }
+    requires { ⌜ (HaveSeconds (now trace) (now row) n) × (n ≤ length (now own)) ⌝ }
     ensures { λ _. ⌜ now (row .exit) ≡ firstRow (λ k. getD (now (own .entry)) k 0) (now (trace .entry)) n ++ drop (2 * n) (now (row .entry)) ⌝ }
 {
     let mut end = 0;
     let mut k = 0;
     while k < n {
         end = stop_end_from(trace, n, k, end);
-        row[2 * k] = first_gear(trace[4 * k + 10], own[k], end - k);
+        row[2 * k] = first_gear(trace::flags_at(trace, k), own[k], end - k);
         row[2 * k + 1] = 0;
         k += 1;
     }
@@ -64,7 +69,7 @@ pub fn first_row(trace: &[u8], own: &[u8], row: &mut [u8], n: usize)
 pub fn clutch_of(flags: u8, speed: usize) -> u8
     ensures { λ r. ⌜ r ≡ clutchOf flags speed ⌝ }
 {
-    if flags % 4 == 0 {
+    if trace::is_stop(flags) {
         return 1;
     }
     if speed < 100 { 1 } else { 0 }
@@ -72,12 +77,12 @@ pub fn clutch_of(flags: u8, speed: usize) -> u8
 
 // The clutch of each second.
 pub fn set_clutch(trace: &[u8], row: &mut [u8], n: usize)
-    requires { ⌜ Room (now trace) (now row) n ⌝ }
+    requires { ⌜ HaveSeconds (now trace) (now row) n ⌝ }
     ensures { λ _. ⌜ now (row .exit) ≡ clutched (now (trace .entry)) (now (row .entry)) n ⌝ }
 {
     let mut k = 0;
     while k < n {
-        row[2 * k + 1] = clutch_of(trace[4 * k + 10], trace::speed_at(trace, k));
+        row[2 * k + 1] = clutch_of(trace::flags_at(trace, k), trace::speed_at(trace, k));
         k += 1;
     }
 }

@@ -2,6 +2,7 @@
 use Prim.Native.Nat.{ℕ, _+_, _*_, _≤_}
 use mathlib.Core.List.{List}
 use lib.ListN.{getD, set, length}
+use Rattle.trace.specs.House.{Lasts}
 
 -- the gear of second k
 abbrev pub gearAt : List ℕ → ℕ → ℕ
@@ -15,7 +16,7 @@ clutchAt row k = getD row (2 * k + 1) 0
 abbrev pub setGear : List ℕ → ℕ → ℕ → List ℕ
 setGear row k gear = set row (2 * k) gear
 
--- the trace and the row have room for n seconds
-pub record Room (trace row : List ℕ) (n : ℕ) : Type 0 where
-  pub in-trace : 8 + 4 * n ≤ length trace
+-- the trace and the row have n seconds at least
+pub record HaveSeconds (trace row : List ℕ) (n : ℕ) : Type 0 where
+  pub in-trace : Lasts trace n
   pub in-row : 2 * n ≤ length row

@@ -1,15 +1,14 @@
-// Corrections 1 to 5 of a row, in place (01, Corrections). They see the trace and no vehicle. The flags of second k are the trace's byte 4 k + 10:
-// % 4 is its phase (0 stop, 1 acceleration, 2 cruise, 3 deceleration), / 4 % 2 its "no gear-shift", / 8 % 2 its "no 1. gear". Its gear is the row's byte 2 k.
+// Corrections 1 to 5 of a row, in place (01, Corrections). They see the trace and no vehicle. The gear of second k is the row's byte 2 k.
 ghost use mathlib.Core.Path.{_≡_};
 ghost use Prim.Native.Nat.{_+_, _-_, min, max};
-ghost use Rattle.row.specs.Row.{Room};
+ghost use Rattle.row.specs.Row.{HaveSeconds};
 ghost use Rattle.row.specs.Corrections.{capped, capAfter, capRuns, notFirst, ruled, passBy};
 
 // A deceleration second takes the smaller of its own gear and the cap.
 pub fn capped(flags: u8, cap: u8, own: u8) -> u8
     ensures { λ r. ⌜ r ≡ capped flags cap own ⌝ }
 {
-    if flags % 4 == 3 {
+    if trace::is_deceleration(flags) {
         if own < cap { own } else { cap }
     } else {
         own
@@ -20,21 +19,25 @@ pub fn capped(flags: u8, cap: u8, own: u8) -> u8
 pub fn cap_after(flags: u8, cap: u8, own: u8) -> u8
     ensures { λ r. ⌜ r ≡ capAfter flags cap own ⌝ }
 {
-    if flags % 4 == 1 {
+    if trace::is_acceleration(flags) {
         return own;
     }
-    if flags % 4 == 3 { cap } else { 255 }
+    if trace::is_deceleration(flags) {
+        cap
+    } else {
+        255
+    }
 }
 
 // Correction 1.
 pub fn cap_runs(trace: &[u8], row: &mut [u8], n: usize)
-    requires { ⌜ Room (now trace) (now row) n ⌝ }
+    requires { ⌜ HaveSeconds (now trace) (now row) n ⌝ }
     ensures { λ _. ⌜ now (row .exit) ≡ capRuns (now (trace .entry)) (now (row .entry)) n ⌝ }
 {
     let mut cap = 255;
     let mut k = 0;
     while k < n {
-        let flags = trace[4 * k + 10];
+        let flags = trace::flags_at(trace, k);
         let own = row[2 * k];
         row[2 * k] = capped(flags, cap, own);
         cap = cap_after(flags, cap, own);
@@ -53,7 +56,7 @@ pub enum Rule {
 fn not_first(flags: u8, gear: u8) -> u8
     ensures { λ r. ⌜ r ≡ notFirst flags gear ⌝ }
 {
-    if (flags / 8 % 2 == 1) & (gear == 1) {
+    if trace::no_first(flags) & (gear == 1) {
         2
     } else {
         gear
@@ -82,17 +85,17 @@ fn one_step(before: u8, own: u8) -> u8
 pub fn ruled(rule: Rule, first: bool, former: u8, flags: u8, before: u8, own: u8) -> u8
     ensures { λ r. ⌜ r ≡ ruled rule first former flags before own ⌝ }
 {
-    if flags % 4 == 0 {
+    if trace::is_stop(flags) {
         return own;
     }
     match rule {
         Rule::NoFirst => not_first(flags, own),
-        Rule::NoShift => if (flags / 4 % 2 == 1) & !first & (former % 4 != 0) {
+        Rule::NoShift => if trace::no_shift(flags) & !first & !trace::is_stop(former) {
             not_first(flags, before)
         } else {
             own
         },
-        Rule::NoDrop => if (flags % 4 == 1) & !first & (former % 4 == 1) {
+        Rule::NoDrop => if trace::is_acceleration(flags) & !first & trace::is_acceleration(former) {
             no_drop(before, own)
         } else {
             own
@@ -109,7 +112,7 @@ fn prior(k: usize) -> usize
 }
 
 pub fn pass(rule: Rule, trace: &[u8], row: &mut [u8], n: usize)
-    requires { ⌜ Room (now trace) (now row) n ⌝ }
+    requires { ⌜ HaveSeconds (now trace) (now row) n ⌝ }
     ensures { λ _. ⌜ now (row .exit) ≡ passBy rule (now (trace .entry)) (now (row .entry)) n ⌝ }
 {
     let mut k = 0;
@@ -118,8 +121,8 @@ pub fn pass(rule: Rule, trace: &[u8], row: &mut [u8], n: usize)
         row[2 * k] = ruled(
             rule,
             k == 0,
-            trace[4 * p + 10],
-            trace[4 * k + 10],
+            trace::flags_at(trace, p),
+            trace::flags_at(trace, k),
             row[2 * p],
             row[2 * k],
         );

@@ -1,23 +1,24 @@
-// Correction 6, and the six corrections in order, in place (01, Corrections). They see the trace and no vehicle. The flags of second k are the
-// trace's byte 4 k + 10 (% 4 is 0 at a stop, / 8 % 2 is "no 1. gear"), its gear the row's byte 2 k.
+// Correction 6, and the six corrections in order, in place (01, Corrections). They see the trace and no vehicle. The gear of second k is the row's
+// byte 2 k.
 use row::Rule;
 ghost use mathlib.Core.Path.{_≡_};
 ghost use mathlib.Core.Bool.{true};
 ghost use Prim.Native.Nat.{_+_, _-_, _*_, _≤_, _<_};
 ghost use lib.ListN.{length};
-ghost use Rattle.row.specs.Row.{Room};
+ghost use Rattle.trace.specs.House.{Lasts};
+ghost use Rattle.row.specs.Row.{HaveSeconds};
 ghost use Rattle.runs.specs.Runs.{runEnd, hasNoFirst, filled, takes, smoothed, Turn};
 ghost use Rattle.runs.specs.Corrected.{corrected};
 
 // Where a run of the gear that reaches second `from` ends.
 fn run_end(trace: &[u8], row: &[u8], n: usize, gear: u8, from: usize) -> usize
-    requires { ⌜ Room (now trace) (now row) n ⌝ }
+    requires { ⌜ HaveSeconds (now trace) (now row) n ⌝ }
     requires { ⌜ from ≤ n ⌝ }
     ensures { λ r. ⌜ (r ≡ runEnd (now (trace .entry)) (now (row .entry)) gear from (n - from)) × (from ≤ r) × (r ≤ n) ⌝ }
 {
     let mut k = from;
     while k < n {
-        if !((trace[4 * k + 10] % 4 != 0) & (row[2 * k] == gear)) {
+        if !(!trace::stop_at(trace, k) & (row[2 * k] == gear)) {
             return k;
         }
         k += 1;
@@ -27,13 +28,13 @@ fn run_end(trace: &[u8], row: &[u8], n: usize, gear: u8, from: usize) -> usize
 
 // Whether one of the seconds from `from` to before `to` is a "no 1. gear" second.
 fn has_no_first(trace: &[u8], from: usize, to: usize) -> bool
-    requires { ⌜ 8 + 4 * to ≤ length (now trace) ⌝ }
+    requires { ⌜ Lasts (now trace) to ⌝ }
     requires { ⌜ from ≤ to ⌝ }
     ensures { λ r. ⌜ r ≡ hasNoFirst (now (trace .entry)) from (to - from) ⌝ }
 {
     let mut k = from;
     while k < to {
-        if trace[4 * k + 10] / 8 % 2 == 1 {
+        if trace::no_first(trace::flags_at(trace, k)) {
             return true;
         }
         k += 1;
@@ -56,7 +57,7 @@ fn fill(row: &mut [u8], start: usize, count: usize, gear: u8)
 
 // Whether the run from `start` to before `end` takes the gear beside it. That it does tells the caller that there is a second at `end`.
 fn takes(trace: &[u8], row: &[u8], n: usize, start: usize, end: usize) -> bool
-    requires { ⌜ Room (now trace) (now row) n ⌝ }
+    requires { ⌜ HaveSeconds (now trace) (now row) n ⌝ }
     requires { ⌜ (start < end) × (end ≤ n) ⌝ }
     ensures { λ r. ⌜ (r ≡ takes (now (trace .entry)) (now (row .entry)) n start end) × (r ≡ true → end < n) ⌝ }
 {
@@ -68,8 +69,8 @@ fn takes(trace: &[u8], row: &[u8], n: usize, start: usize, end: usize) -> bool
     }
     let prior = start - 1;
     let barred = has_no_first(trace, start, end);
-    (trace[4 * prior + 10] % 4 != 0)
-        & (trace[4 * end + 10] % 4 != 0)
+    !trace::stop_at(trace, prior)
+        & !trace::stop_at(trace, end)
         & (end - start <= 4)
         & (row[2 * prior] == row[2 * end])
         & !((row[2 * end] == 1) & barred)
@@ -77,11 +78,11 @@ fn takes(trace: &[u8], row: &[u8], n: usize, start: usize, end: usize) -> bool
 
 // Judges what starts at `start`, and says where the next starts: behind the whole of a replaced run and the two beside it.
 fn judge(trace: &[u8], row: &mut [u8], n: usize, start: usize) -> usize
-    requires { ⌜ Room (now trace) (now row) n ⌝ }
+    requires { ⌜ HaveSeconds (now trace) (now row) n ⌝ }
     requires { ⌜ start < n ⌝ }
     ensures { λ r. ⌜ Turn (now (trace .entry)) (now (row .entry)) n start (now (row .exit)) r ⌝ }
 {
-    if trace[4 * start + 10] % 4 == 0 {
+    if trace::stop_at(trace, start) {
         return start + 1;
     }
     let gear = row[2 * start];
@@ -97,7 +98,7 @@ fn judge(trace: &[u8], row: &mut [u8], n: usize, start: usize) -> usize
 
 // Correction 6.
 fn smooth(trace: &[u8], row: &mut [u8], n: usize)
-    requires { ⌜ Room (now trace) (now row) n ⌝ }
+    requires { ⌜ HaveSeconds (now trace) (now row) n ⌝ }
     ensures { λ _. ⌜ now (row .exit) ≡ smoothed (now (trace .entry)) (now (row .entry)) n ⌝ }
 {
     let mut start = 0;
@@ -108,7 +109,7 @@ fn smooth(trace: &[u8], row: &mut [u8], n: usize)
 
 // The six corrections.
 pub fn correct(trace: &[u8], row: &mut [u8], n: usize)
-    requires { ⌜ Room (now trace) (now row) n ⌝ }
+    requires { ⌜ HaveSeconds (now trace) (now row) n ⌝ }
     ensures { λ _. ⌜ now (row .exit) ≡ corrected (now (trace .entry)) (now (row .entry)) n ⌝ }
 {
     row::cap_runs(trace, row, n);

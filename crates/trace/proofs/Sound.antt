@@ -1,4 +1,5 @@
--- What an accepted trace tells, which every stage after the judging rests on: its count, its length, the range of each second. Assumes nothing.
+-- What an accepted trace tells, which every stage after the judging rests on: that each second is good, and its count, its length, the range of each
+-- second. Assumes nothing.
 use mathlib.Core.Path.{_≡_}
 use mathlib.Core.Bool.{Bool, true, _&&_}
 use mathlib.Core.List.{List}
@@ -11,13 +12,20 @@ use Rattle.refusal.specs.declared.Refusal.the-variants.{Header, Count, Length}
 use Rattle.refusal.specs.Judging.{checked}
 use Rattle.refusal.proofs.Ranges.{both}
 use Rattle.refusal.proofs.Judging.{checked-holds, refused-not}
-use Rattle.trace.specs.House.{headed, countOf, speedAt, flagsAt, zeroAt}
+use Rattle.trace.specs.House.{headed, versionOf, readable, allows, countOf, speedAt, flagsAt, zeroAt}
 use Rattle.trace.specs.Judging.{countable, secondGood, judgeSeconds, judgeTrace, Sound}
 use Rattle.walk.proofs.Walk.{all-good}
 
-pub accepted-sound : (trace : List ℕ) → judgeTrace trace ≡ Accepted → Sound trace
+-- the four checks, in order
+record Passed (trace : List ℕ) : Type 0 where
+  head : headed trace ≡ true
+  count : countable (countOf trace) ≡ true
+  exact : eqb (length trace) (8 + 4 * countOf trace) ≡ true
+  seconds : judgeSeconds trace 0 (countOf trace) ≡ Accepted
+
+passed : (trace : List ℕ) → judgeTrace trace ≡ Accepted → Passed trace
 unfolding judgeTrace
-accepted-sound trace e =
+passed trace e =
     let n = countOf trace in
     let seconds = judgeSeconds trace 0 n in
     let lengths = checked (eqb (length trace) (8 + 4 * n)) Length seconds in
@@ -25,15 +33,25 @@ accepted-sound trace e =
     let past-head = checked-holds (headed trace) Header counts e in
     let past-count = checked-holds (countable n) Count lengths (past-head .1) in
     let past-length = checked-holds (eqb (length trace) (8 + 4 * n)) Length seconds (past-count .1) in
-    let counted = both (leb 1 n) (leb n 2000) (past-count .0) in
+    record { head = past-head .0; count = past-count .0; exact = past-length .0; seconds = past-length .1 }
+
+-- no second is refused
+pub seconds-good : (trace : List ℕ) → judgeTrace trace ≡ Accepted → (k : ℕ) → k < countOf trace → secondGood trace k ≡ true
+seconds-good trace e = all-good (secondGood trace) _ _ Accepted (λ k. refused-not) (countOf trace) (passed trace e .seconds)
+
+pub accepted-sound : (trace : List ℕ) → judgeTrace trace ≡ Accepted → Sound trace
+accepted-sound trace e =
+    let n = countOf trace in
+    let checks = passed trace e in
+    let counted = both (leb 1 n) (leb n 2000) (checks .count) in
     let slow : ℕ → Bool = λ k. leb (speedAt trace k) 2000 in
-    let known : ℕ → Bool = λ k. leb (flagsAt trace k) 15 in
-    let good : (k : ℕ) → k < n → secondGood trace k ≡ true = all-good (secondGood trace) _ _ Accepted (λ k. refused-not) n (past-length .1) in
-    let ranges : (k : ℕ) → k < n → (slow k ≡ true) × (known k ≡ true) = λ k l. both (slow k) (known k) (both (slow k && known k) (eqb (zeroAt trace k) 0) (good k l) .0) in
+    let known : ℕ → Bool = λ k. allows (versionOf trace) (flagsAt trace k) in
+    let ranges : (k : ℕ) → k < n → (slow k ≡ true) × (known k ≡ true) =
+    λ k l. both (slow k) (known k) (both (slow k && known k) (eqb (zeroAt trace k) 0) (seconds-good trace e k l) .0) in
     record {
       some = leb-true 1 n (counted .0);
       few = leb-true n 2000 (counted .1);
-      exact = eqb-true (length trace) (8 + 4 * n) (past-length .0);
+      exact = eqb-true (length trace) (8 + 4 * n) (checks .exact);
       speeds = λ k l. leb-true (speedAt trace k) 2000 (ranges k l .0);
-      flags = λ k l. leb-true (flagsAt trace k) 15 (ranges k l .1);
+      flags = λ k l. leb-true (flagsAt trace k) 15 (both (readable (versionOf trace)) (leb (flagsAt trace k) 15) (ranges k l .1) .1);
     }

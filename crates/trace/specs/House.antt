@@ -1,5 +1,5 @@
 -- The house file (01, Trace), byte by byte: 8 bytes of head, then 4 bytes a second. Seconds count from 0 here.
-use Prim.Native.Nat.{ℕ, _+_, _*_, _/_, _%_}
+use Prim.Native.Nat.{ℕ, _+_, _*_, _/_, _%_, _≤_}
 use mathlib.Core.Bool.{Bool, _&&_}
 use mathlib.Core.List.{List}
 use lib.ListN.{getD, length}
@@ -9,15 +9,31 @@ use lib.Dec.{eqb, leb}
 abbrev pub sixteenAt : List ℕ → ℕ → ℕ
 sixteenAt bytes at = getD bytes at 0 + 256 * getD bytes (at + 1) 0
 
--- 01, Trace: "bytes W T R, one zero byte, version (16 bits, little-endian, 1)"; W is 87, T 84, R 82. The head has 8 bytes
+-- 01, Trace: "version (16 bits, little-endian, 1)"
+abbrev pub versionOf : List ℕ → ℕ
+versionOf trace = sixteenAt trace 4
+
+-- the versions that are read
+abbrev pub readable : ℕ → Bool
+readable version = eqb version 1
+
+-- the flags that a version allows: in version 1 bits 0 to 3, "others zero"; a version that is not read allows none
+abbrev pub allows : ℕ → ℕ → Bool
+allows version flags = readable version && leb flags 15
+
+-- 01, Trace: "bytes W T R, one zero byte, version"; W is 87, T 84, R 82. The head has 8 bytes
 abbrev pub headed : List ℕ → Bool
 headed trace =
     leb 8 (length trace)
-    && (eqb (getD trace 0 0) 87 && eqb (getD trace 1 0) 84 && eqb (getD trace 2 0) 82 && eqb (getD trace 3 0) 0 && eqb (sixteenAt trace 4) 1)
+    && (eqb (getD trace 0 0) 87 && eqb (getD trace 1 0) 84 && eqb (getD trace 2 0) 82 && eqb (getD trace 3 0) 0 && readable (versionOf trace))
 
 -- 01, Trace: "count of seconds"
 abbrev pub countOf : List ℕ → ℕ
 countOf trace = sixteenAt trace 6
+
+-- the trace goes on for n seconds at least: 8 bytes of head, and 4 for each
+abbrev pub Lasts : List ℕ → ℕ → Type 0
+Lasts trace n = 8 + 4 * n ≤ length trace
 
 -- 01, Trace: "speed in 0.1 km/h"
 abbrev pub speedAt : List ℕ → ℕ → ℕ

@@ -1,10 +1,12 @@
-// A trace of the house (01, Trace): judged whole, and chosen from a pair. Seconds count from 0 in this file, and from 1 where a refusal names one.
+// A trace of the house (01, Trace): read, judged whole, and chosen from a pair. No other crate knows where its bytes stand. Seconds count from 0 in this
+// file, and from 1 where a refusal names one.
 use refusal::Judged;
 use refusal::Refusal;
 ghost use mathlib.Core.Path.{_≡_};
-ghost use Prim.Native.Nat.{_+_, _*_, _<_, _≤_};
+ghost use Prim.Native.Nat.{_+_, _<_, _≤_};
 ghost use lib.ListN.{length};
-ghost use Rattle.trace.specs.House.{sixteenAt, headed, countOf, speedAt};
+ghost use Rattle.trace.specs.House.{sixteenAt, versionOf, readable, allows, headed, countOf, Lasts};
+ghost use Rattle.trace.specs.House.{speedAt, flagsAt, stop, stopAt, acceleration, deceleration, noShift, noFirst};
 ghost use Rattle.trace.specs.Judging.{secondGood, judgeSeconds, judgeTrace, judgePair};
 ghost use Rattle.trace.specs.Choice.{Chosen};
 
@@ -33,10 +35,76 @@ pub fn count_of(trace: &[u8]) -> usize
 
 // The speed of second k, in 0.1 km/h.
 pub fn speed_at(trace: &[u8], k: usize) -> usize
-    requires { ⌜ 4 * k + 12 ≤ length (now trace) ⌝ }
+    requires { ⌜ Lasts (now trace) (k + 1) ⌝ }
     ensures { λ r. ⌜ (r ≡ speedAt (now (trace .entry)) k) × (r < 65536) ⌝ }
 {
     sixteen(trace, 4 * k + 8)
+}
+
+// The flags of second k, and what they say.
+pub fn flags_at(trace: &[u8], k: usize) -> u8
+    requires { ⌜ Lasts (now trace) (k + 1) ⌝ }
+    ensures { λ r. ⌜ r ≡ flagsAt (now (trace .entry)) k ⌝ }
+{
+    trace[4 * k + 10]
+}
+
+pub fn is_stop(flags: u8) -> bool
+    ensures { λ r. ⌜ r ≡ stop flags ⌝ }
+{
+    flags % 4 == 0
+}
+
+pub fn stop_at(trace: &[u8], k: usize) -> bool
+    requires { ⌜ Lasts (now trace) (k + 1) ⌝ }
+    ensures { λ r. ⌜ r ≡ stopAt (now (trace .entry)) k ⌝ }
+{
+    is_stop(flags_at(trace, k))
+}
+
+pub fn is_acceleration(flags: u8) -> bool
+    ensures { λ r. ⌜ r ≡ acceleration flags ⌝ }
+{
+    flags % 4 == 1
+}
+
+pub fn is_deceleration(flags: u8) -> bool
+    ensures { λ r. ⌜ r ≡ deceleration flags ⌝ }
+{
+    flags % 4 == 3
+}
+
+// The marks "no gear-shift" and "no 1. gear".
+pub fn no_shift(flags: u8) -> bool
+    ensures { λ r. ⌜ r ≡ noShift flags ⌝ }
+{
+    flags / 4 % 2 == 1
+}
+
+pub fn no_first(flags: u8) -> bool
+    ensures { λ r. ⌜ r ≡ noFirst flags ⌝ }
+{
+    flags / 8 % 2 == 1
+}
+
+// Of a trace that has a head.
+fn version_of(trace: &[u8]) -> usize
+    requires { ⌜ 8 ≤ length (now trace) ⌝ }
+    ensures { λ r. ⌜ r ≡ versionOf (now (trace .entry)) ⌝ }
+{
+    sixteen(trace, 4)
+}
+
+fn is_readable(version: usize) -> bool
+    ensures { λ r. ⌜ r ≡ readable version ⌝ }
+{
+    version == 1
+}
+
+fn is_allowed(version: usize, flags: u8) -> bool
+    ensures { λ r. ⌜ r ≡ allows version flags ⌝ }
+{
+    is_readable(version) & (flags <= 15)
 }
 
 // Of a trace with room for a head: the mark, the zero byte and the version.
@@ -44,21 +112,22 @@ fn has_head(trace: &[u8]) -> bool
     requires { ⌜ 8 ≤ length (now trace) ⌝ }
     ensures { λ r. ⌜ r ≡ headed (now (trace .entry)) ⌝ }
 {
-    let version = sixteen(trace, 4);
-    (trace[0] == b'W') & (trace[1] == b'T') & (trace[2] == b'R') & (trace[3] == 0) & (version == 1)
+    let known = is_readable(version_of(trace));
+    (trace[0] == b'W') & (trace[1] == b'T') & (trace[2] == b'R') & (trace[3] == 0) & known
 }
 
 fn is_good(trace: &[u8], k: usize) -> bool
-    requires { ⌜ 4 * k + 12 ≤ length (now trace) ⌝ }
+    requires { ⌜ Lasts (now trace) (k + 1) ⌝ }
     ensures { λ r. ⌜ r ≡ secondGood (now (trace .entry)) k ⌝ }
 {
     let speed = speed_at(trace, k);
-    (speed <= 2000) & (trace[4 * k + 10] <= 15) & (trace[4 * k + 11] == 0)
+    let allowed = is_allowed(version_of(trace), flags_at(trace, k));
+    (speed <= 2000) & allowed & (trace[4 * k + 11] == 0)
 }
 
 // The first wrong one of the n seconds.
 fn judge_seconds(trace: &[u8], n: usize) -> Judged
-    requires { ⌜ (8 + 4 * n ≤ length (now trace)) × (n ≤ 2000) ⌝ }
+    requires { ⌜ (Lasts (now trace) n) × (n ≤ 2000) ⌝ }
     ensures { λ r. ⌜ r ≡ judgeSeconds (now (trace .entry)) 0 n ⌝ }
 {
     let mut k = 0;

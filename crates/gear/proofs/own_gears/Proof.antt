@@ -2,14 +2,13 @@
 -- put. The measure is what is left of n. Assumes nothing.
 use mathlib.Core.Path.{_≡_, refl, sym, ap, _∙_}
 use mathlib.Core.Bool.{Bool, not}
-use Prim.Native.Nat.{_-_, _≤_}
+use Prim.Native.Nat.{_-_, _≤_, _<_}
 use native.Mathlib.Omega.{arith}
 use lib.ListN.{length, set, length-set}
 use Rattle.refusal.proofs.Judging.{refused-not}
 use Rattle.shift.specs.declared.Own.{Own}
 use Rattle.walk.proofs.Walk.{scan-on, scan-out, scan-done, inTurn-next}
-use Rattle.trace.specs.House.{flagsAt}
-use Rattle.gear.specs.Own.{ownSecond, ownAt, judgeClose, putOwn}
+use Rattle.gear.specs.Own.{ownAt, judgeClose, putOwn}
 use Rattle.gear.proofs.own_gears.Statement.{statement}
 use Rattle.gear.proofs.own_gears.Tie as tie
 
@@ -27,42 +26,46 @@ loop-holds c =
     (omega arith, refl, ap (judgeClose (a .s) (a .trace .now) 0) e, refl)
 
 -- the second of a turn
-abbrev at-loop : tie.After-own-second Inv-loop μ-loop → tie.At-loop Inv-loop μ-loop
-at-loop c = c .before .before .before .before
-
 module _ (c : tie.After-own-second Inv-loop μ-loop) where
-  own-is : c .own-second .result ≡ ownAt (at-loop c .before .before .before .args .s) (at-loop c .before .before .before .args .trace .now) (at-loop c .loop .k)
-  own-is =
-      let a = at-loop c .before .before .before .args in
-      c .own-second .ensures ∙ ap (ownSecond (a .s) (flagsAt (a .trace .now) (at-loop c .loop .k))) (c .before .before .speed-at .ensures .0)
+  abbrev head : tie.At-loop Inv-loop μ-loop
+  head = c .before .before .before .before
 
-  by-close : {b : Bool} → c .own-second .result .close ≡ b → not (ownAt (at-loop c .before .before .before .args .s) (at-loop c .before .before .before .args .trace .now) (at-loop c .loop .k) .close) ≡ not b
+  abbrev given : tie.Start Inv-loop μ-loop
+  given = head .before .before .before
+
+  inside : head .loop .k < given .args .n
+  inside = c .before .before .before .loop-test .taken
+
+  own-is : c .own-second .result ≡ ownAt (given .args .s) (given .args .trace .now) (head .loop .k)
+  own-is = rw (c .before .flags-at .ensures, c .before .before .speed-at .ensures .0) at (c .own-second .ensures)
+
+  by-close : {b : Bool} → c .own-second .result .close ≡ b → not (ownAt (given .args .s) (given .args .trace .now) (head .loop .k) .close) ≡ not b
   by-close e = ap not (ap (λ (o : Own). o .close) (sym own-is) ∙ e)
 
 own-second-requires : tie.Need-own-second-requires Inv-loop μ-loop
 own-second-requires c κs =
-    let l = c .before .before .before in
+    let timed = c .before in
+    let l = timed .before .before in
     let ready = l .before .before .before .pre .0 in
-    (ready .usable, rw (c .before .speed-at .ensures .0) (ready .speeds (l .loop .k) (omega arith)))
+    (ready .usable, rw (timed .speed-at .ensures .0) (ready .speeds (l .loop .k) (timed .before .loop-test .taken)))
 
 returns : tie.Need-returns Inv-loop μ-loop
 returns c =
-    let after = c .before in
-    let l = at-loop after in (
-      sym (l .loop .inv .2 ∙ scan-out _ _ _ _ _ (after .before .before .before .loop-test .taken) (by-close after (c .if1 .taken))),
+    let second = c .before in (
+      sym (head second .loop .inv .2 ∙ scan-out _ _ _ _ _ (inside second) (by-close second (c .if1 .taken))),
       λ e. absurd (refused-not e),
     )
 
 loop-again : tie.Need-loop-again Inv-loop μ-loop
 loop-again c =
-    let after = c .before in
-    let l = at-loop after in
-    let a = l .before .before .before .args in
-    let gear = ap (λ (o : Own). o .gear) (own-is after) in (
+    let second = c .before in
+    let l = head second .loop in
+    let a = given second .args in
+    let gear = ap (λ (o : Own). o .gear) (own-is second) in (
       omega arith,
       simp length-set (omega arith),
-      l .loop .inv .2 ∙ scan-on _ _ _ _ _ (after .before .before .before .loop-test .taken) (by-close after (c .if1 .left)),
-      inTurn-next (λ own k. set own k (ownAt (a .s) (a .trace .now) k .gear)) (a .own .now) (l .loop .k) (l .loop .inv .3) (ap (set (l .loop .own) (l .loop .k)) gear),
+      l .inv .2 ∙ scan-on _ _ _ _ _ (inside second) (by-close second (c .if1 .left)),
+      inTurn-next (λ own k. set own k (ownAt (a .s) (a .trace .now) k .gear)) (a .own .now) (l .k) (l .inv .3) (ap (set (l .own) (l .k)) gear),
     )
 
 returns-2 : tie.Need-returns-2 Inv-loop μ-loop
@@ -83,13 +86,11 @@ own-gears-spec =
     loop-holds
     (λ c κs. omega arith)
     (λ c. omega arith)
-    (λ c. omega arith)
-    (λ c. omega arith)
-    (λ c. omega arith)
+    (λ c κs. omega arith)
     own-second-requires
     (λ c. omega arith)
     (λ c. omega arith)
-    (λ c. at-loop (c .before) .loop .inv .1)
+    (λ c. head (c .before) .loop .inv .1)
     returns
     (λ c. omega arith)
     (λ c. omega arith)

@@ -29,12 +29,13 @@ loop-holds c = let a = c .before .before .before .args in (omega arith, refl, re
 loop-again : tie.Need-loop-again Inv-loop μ-loop
 unfolding firstGear
 loop-again c =
-    let after = c .before .before .before in
-    let head = after .before .before in
+    let flagged = c .before .before in
+    let ended = flagged .before in
+    let head = ended .before .before in
     let l = head .loop in
     let a = head .before .before .before .before .args in
-    let end = after .stop-end-from .ensures .0 in
-    let gear = c .first-gear .ensures ∙ ap (λ (e : ℕ). gearBy (flagsAt (a .trace .now) (l .k)) (getD (a .own .now) (l .k) 0) (e - l .k)) end in (
+    let end = ended .stop-end-from .ensures .0 in
+    let gear = rw (flagged .flags-at .ensures) at (c .first-gear .ensures) ∙ ap (λ (e : ℕ). gearBy (flagsAt (a .trace .now) (l .k)) (getD (a .own .now) (l .k) 0) (e - l .k)) end in (
       omega arith,
       simp length-set (omega arith),
       pairs-next (gears (a .trace .now) (a .own .now) (a .n)) (λ i. 0) (a .row .now) (l .k) (l .inv .2) gear refl (omega arith),
@@ -57,9 +58,7 @@ first-row-spec =
     μ-loop
     loop-holds
     (λ c κs. (omega arith, omega arith, c .before .loop .inv .3))
-    (λ c. omega arith)
-    (λ c. omega arith)
-    (λ c. omega arith)
+    (λ c κs. omega arith)
     (λ c. omega arith)
     (λ c. omega arith)
     (λ c κs. tt)

@@ -5,8 +5,7 @@ use native.Mathlib.Omega.{arith}
 use lib.ListN.{length, set, length-set}
 use Rattle.walk.specs.Walk.{inTurn}
 use Rattle.walk.proofs.Walk.{inTurn-next}
-use Rattle.trace.specs.House.{flagsAt}
-use Rattle.phase.specs.Phase.{clutchOf, clutchStep, clutched}
+use Rattle.phase.specs.Phase.{clutchStep, clutched}
 use Rattle.phase.proofs.set_clutch.Statement.{statement}
 use Rattle.phase.proofs.set_clutch.Tie as tie
 
@@ -18,13 +17,14 @@ abbrev μ-loop : tie.MeasureT-loop
 
 loop-again : tie.Need-loop-again Inv-loop μ-loop
 loop-again c =
-    let head = c .before .before .before .before in
+    let timed = c .before in
+    let head = timed .before .before .before in
     let l = head .loop in
     let a = head .before .before .before .args in
-    let e = c .clutch-of .ensures ∙ ap (clutchOf (flagsAt (a .trace .now) (l .k))) (c .before .speed-at .ensures .0) in (
+    let clutch = rw (timed .before .flags-at .ensures, timed .speed-at .ensures .0) at (c .clutch-of .ensures) in (
       omega arith,
       simp length-set (omega arith),
-      inTurn-next (clutchStep (a .trace .now)) (a .row .now) (l .k) (l .inv .2) (ap (set (l .row) (2 * l .k + 1)) e),
+      inTurn-next (clutchStep (a .trace .now)) (a .row .now) (l .k) (l .inv .2) (ap (set (l .row) (2 * l .k + 1)) clutch),
     )
 
 returns : tie.Need-returns Inv-loop μ-loop
@@ -41,9 +41,7 @@ set-clutch-spec =
     Inv-loop
     μ-loop
     (λ c. (omega arith, refl, refl))
-    (λ c. omega arith)
-    (λ c. omega arith)
-    (λ c. omega arith)
+    (λ c κs. omega arith)
     (λ c κs. omega arith)
     (λ c κs. tt)
     (λ c. omega arith)

@@ -3,7 +3,7 @@
 use mathlib.Core.Path.{_≡_, refl, sym, _∙_}
 use Prim.Native.Nat.{_-_, _≤_}
 use native.Mathlib.Omega.{arith}
-use borrow.Author.Tests.{eq-eqb, ne-eqb}
+use borrow.Author.Tests.{not-true, not-false}
 use Rattle.walk.proofs.Walk.{scan-on, scan-out, scan-done}
 use Rattle.phase.specs.Phase.{stopEnd}
 use Rattle.phase.proofs.stop_end.Statement.{statement}
@@ -19,13 +19,13 @@ returns : tie.Need-returns Inv-loop μ-loop
 returns c =
     let at-test = c .before .before in
     let inv = at-test .before .loop .inv in
-    (sym (inv .2 ∙ scan-out _ _ _ _ _ (at-test .loop-test .taken) (ne-eqb _ _ (c .if1 .taken))), omega arith)
+    (sym (inv .2 ∙ scan-out _ _ _ _ _ (at-test .loop-test .taken) (sym (c .before .stop-at .ensures) ∙ not-true _ (c .if1 .taken))), omega arith)
 
 loop-again : tie.Need-loop-again Inv-loop μ-loop
 loop-again c =
     let at-test = c .before .before in
     let inv = at-test .before .loop .inv in
-    (omega arith, omega arith, inv .2 ∙ scan-on _ _ _ _ _ (at-test .loop-test .taken) (eq-eqb _ _ (c .if1 .left)))
+    (omega arith, omega arith, inv .2 ∙ scan-on _ _ _ _ _ (at-test .loop-test .taken) (sym (c .before .stop-at .ensures) ∙ not-false _ (c .if1 .left)))
 
 returns-2 : tie.Need-returns-2 Inv-loop μ-loop
 returns-2 c = (sym (c .before .loop .inv .2 ∙ scan-done _ _ _ _ _ (c .loop-test .left)), omega arith)
@@ -37,9 +37,7 @@ stop-end-spec =
     Inv-loop
     μ-loop
     (λ c. (omega arith, omega arith, refl))
-    (λ c. omega arith)
-    (λ c. omega arith)
-    (λ c. omega arith)
+    (λ c κs. omega arith)
     returns
     (λ c. omega arith)
     (λ c. omega arith)

@@ -19,13 +19,16 @@ abbrev μ-loop : tie.MeasureT-loop
 
 loop-again : tie.Need-loop-again Inv-loop μ-loop
 loop-again c =
-    let head = c .before .before .before .before .before in
+    let flagged = c .before .before .before in
+    let head = flagged .before .before in
     let loop = head .loop in
-    let a = head .before .before .before .args in (
+    let a = head .before .before .before .args in
+    let flags = flagged .flags-at .ensures in
+    let gear = rw flags at (c .before .capped .ensures) in
+    let cap = rw flags at (c .cap-after .ensures) in (
       omega arith,
       simp length-set (omega arith),
-      inTurn-next (capStep (a .trace .now)) (a .row .now, uncapped) (loop .k) (loop .inv .2)
-          (λ i. (set (loop .row) (2 * loop .k) (c .before .capped .ensures i), c .cap-after .ensures i)),
+      inTurn-next (capStep (a .trace .now)) (a .row .now, uncapped) (loop .k) (loop .inv .2) (λ i. (set (loop .row) (2 * loop .k) (gear i), cap i)),
     )
 
 returns : tie.Need-returns Inv-loop μ-loop
@@ -41,9 +44,7 @@ cap-runs-spec =
     Inv-loop
     μ-loop
     (λ c. (omega arith, refl, refl))
-    (λ c. omega arith)
-    (λ c. omega arith)
-    (λ c. omega arith)
+    (λ c κs. omega arith)
     (λ c. omega arith)
     (λ c. omega arith)
     (λ c κs. tt)

@@ -19,15 +19,17 @@ abbrev μ-loop : tie.MeasureT-loop
 
 loop-again : tie.Need-loop-again Inv-loop μ-loop
 loop-again c =
-    let prior = c .before .before .before .before .before in
+    let flagged = c .before .before .before in
+    let prior = flagged .before .before in
     let loop = prior .before .before .loop in
     let a = prior .before .before .before .before .before .args in
     let trace = a .trace .now in
-    let gear : ℕ → ℕ = λ p. ruled (a .rule) (eqb (loop .k) 0) (flagsAt trace p) (flagsAt trace (loop .k)) (gearAt (loop .row) p) (gearAt (loop .row) (loop .k)) in (
+    let gear : ℕ → ℕ = λ p. ruled (a .rule) (eqb (loop .k) 0) (flagsAt trace p) (flagsAt trace (loop .k)) (gearAt (loop .row) p) (gearAt (loop .row) (loop .k)) in
+    let by-flags = rw (flagged .before .flags-at .ensures, flagged .flags-at2 .ensures) at (c .ruled .ensures) in (
       omega arith,
       simp length-set (omega arith),
       inTurn-next (ruleStep (a .rule) trace) (a .row .now) (loop .k) (loop .inv .2)
-          (ap (set (loop .row) (2 * loop .k)) (c .ruled .ensures ∙ ap gear (prior .prior .ensures))),
+          (ap (set (loop .row) (2 * loop .k)) (by-flags ∙ ap gear (prior .prior .ensures))),
     )
 
 returns : tie.Need-returns Inv-loop μ-loop
@@ -43,12 +45,8 @@ pass-spec =
     μ-loop
     (λ c. (omega arith, refl, refl))
     (λ c κs. tt)
-    (λ c. omega arith)
-    (λ c. omega arith)
-    (λ c. omega arith)
-    (λ c. omega arith)
-    (λ c. omega arith)
-    (λ c. omega arith)
+    (λ c κs. omega arith)
+    (λ c κs. omega arith)
     (λ c. omega arith)
     (λ c. omega arith)
     (λ c. omega arith)

@@ -20,9 +20,12 @@ returns-2 c = (simp (ne-eqb _ _ (c .before .if1 .left), le-leb _ _ (c .if2 .take
 returns-3 : tie.Need-returns-3
 unfolding takes
 returns-3 c =
-    let after = c .before .before .before .before .before in
-    let else2 = after .before in (
-      simp (ne-eqb _ _ (else2 .before .if1 .left), lt-leb _ _ (else2 .if2 .left), sym (after .has-no-first .ensures)),
+    let behind = c .before .before .before in
+    let before = behind .before in
+    let marked = before .before in
+    let else2 = marked .before in (
+      simp
+          (ne-eqb _ _ (else2 .before .if1 .left), lt-leb _ _ (else2 .if2 .left), before .stop-at .ensures, behind .stop-at2 .ensures, sym (marked .has-no-first .ensures)),
       λ h. omega (arith, else2 .if2 .left),
     )
 
@@ -34,12 +37,8 @@ takes-spec =
     returns-2
     (λ c. search needs)
     (λ c κs. search needs)
-    (λ c. search needs)
-    (λ c. search needs)
-    (λ c. search needs)
-    (λ c. search needs)
-    (λ c. search needs)
-    (λ c. search needs)
+    (λ c κs. search needs)
+    (λ c κs. search needs)
     (λ c. search needs)
     (λ c. search needs)
     (λ c. search needs)
