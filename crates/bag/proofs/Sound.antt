@@ -1,4 +1,4 @@
--- What an accepted bag sheet tells of its numbers and readings, which the stages above require. Assumes nothing.
+-- What an accepted bag sheet tells of its numbers, which the stages above require. Assumes nothing.
 use mathlib.Core.Path.{_≡_}
 use mathlib.Core.Bool.{true}
 use mathlib.Core.List.{List, [], _∷_, _++_}

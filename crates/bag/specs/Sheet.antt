@@ -1,19 +1,15 @@
--- 01, Bag sheet and figures and Refusal numbers: the checks of refusals 10, 11 and 12 in their order. Within 11 the test's fields come first,
--- as part 0; within 12 a part's gases go HC, CO, NOx, CO2, the bag (1) before the air (2). The third part is read for class 3 alone.
-use mathlib.Core.Bool.{Bool, true, false, _&&_, cond}
+-- 01, Bag sheet and figures and Refusal numbers: the checks of refusals 10 and 11 in their order. Within 11 the test's fields come first, as
+-- part 0. The third part is read for class 3 alone.
+use mathlib.Core.Bool.{Bool, _&&_, cond}
 use mathlib.Core.List.{List, [], _∷_, _++_}
 use Prim.Native.Nat.{ℕ, _*_}
 use lib.Dec.{leb, eqb}
 use lib.IntN.{pos, negsuc}
 use Rattle.refusal.specs.declared.Judged.{Judged}
-use Rattle.refusal.specs.declared.Refusal.the-variants.{Parts, Value, Reading}
+use Rattle.refusal.specs.declared.Refusal.the-variants.{Parts, Value}
 use Rattle.refusal.specs.Judging.{Check, judgedBy}
 use Rattle.refusal.specs.Ranges.{within, withinℤ}
-use Rattle.reading.specs.declared.Message.{Message}
-use Rattle.reading.specs.declared.Reading as read
-use Rattle.reading.specs.declared.Reading.the-variants.{Units, Unusable}
-use Rattle.reading.specs.Units.{unitsOf}
-use Rattle.reading.specs.Gas.{Gas, numberOf, among, along, messageAt}
+use Rattle.reading.specs.Gas.{Gas, among, along}
 use Rattle.bag.specs.declared.Triple.{Triple}
 use Rattle.bag.specs.declared.Fuel.{Fuel}
 use Rattle.bag.specs.declared.Densities.{Densities}
@@ -73,21 +69,6 @@ valueChecks part p =
     ∷ value part 8 (within 100 100000 (p .distance))
     ∷ along (λ gas. value part 9 (within 1 2100000 (densityAt gas (p .density))) ∷ [])
 
--- 12: "reading unusable"
-abbrev pub usable : read.Reading → Bool
-usable (Units ends) = true
-usable Unusable = false
-
-abbrev pub readingCheck : ℕ → ℕ → ℕ → Message → Check
-readingCheck part gas side message = record { holds = usable (unitsOf message); refusal = Reading part gas side }
-
--- "bag before air"
-abbrev pub gasChecks : ℕ → ℕ → Message → Message → List Check
-gasChecks part gas bag air = readingCheck part gas 1 bag ∷ readingCheck part gas 2 air ∷ []
-
-unfoldable pub readingChecks : ℕ → Part → List Check
-readingChecks part p = along (λ gas. gasChecks part (numberOf gas) (messageAt gas (p .bag)) (messageAt gas (p .air)))
-
 -- the checks of the third part, which class 3 alone has
 abbrev pub ofThird : ℕ → List Check → List Check
 ofThird class checks = cond (eqb class 3) checks []
@@ -100,10 +81,6 @@ sheetChecks s =
     ++ (valueChecks 1 (s .first)
     ++ (valueChecks 2 (s .second)
     ++ ofThird (s .class) (valueChecks 3 (s .third)))))
-
--- 12
-unfoldable pub messageChecks : BagSheet → List Check
-messageChecks s = readingChecks 1 (s .first) ++ (readingChecks 2 (s .second) ++ ofThird (s .class) (readingChecks 3 (s .third)))
 
 abbrev pub judgeSheet : BagSheet → Judged
 judgeSheet s = judgedBy (sheetChecks s)

@@ -1,4 +1,4 @@
--- What an accepted bag sheet tells of its numbers and readings, for the stages that stand on it (01, Bag sheet and figures, the table).
+-- What an accepted bag sheet tells of its numbers, for the stages that stand on it (01, Bag sheet and figures, the table).
 use mathlib.Core.Path.{_≡_}
 use Prim.Native.Nat.{_*_, _≤_}
 use lib.IntN.{pos, negsuc}

@@ -1,11 +1,11 @@
 -- What it takes for a sheet to be answered with a result. Assumes nothing.
 use mathlib.Core.Path.{_≡_, refl}
-use Prim.Native.Nat.{ℕ}
-use native.Mathlib.Omega.{arith}
+use mathlib.Core.Bool.{false≢true}
 use Rattle.refusal.specs.declared.Judged.{Judged}
 use Rattle.refusal.specs.declared.Judged.the-variants.{Accepted, Refused}
 use Rattle.bag.specs.declared.BagSheet.{BagSheet}
 use Rattle.bag.specs.Sheet.{judgeSheet}
+use Rattle.part.proofs.Read.{Took}
 use Rattle.emission.specs.declared.Readings.{Readings}
 use Rattle.emission.specs.declared.Read.{Read}
 use Rattle.emission.specs.declared.Read.the-variants.{Units}
@@ -18,17 +18,11 @@ use Rattle.emission.specs.Test.{readIn, onRead, judgeLate, partsIn, resultOf, h
 -- a stage that hands a result up accepted, and the result is what came next
 handed : {r : TestResult} (j : Judged) (next : Answer) → handUp j next ≡ Result r → (j ≡ Accepted) × (next ≡ Result r)
 handed Accepted next e = (refl, e)
-handed (Refused refusal) next e = absurd (let z : _≡_ {A = ℕ} 0 1 = cc in let no : ⊥ = omega arith in no)
+handed (Refused refusal) next e = absurd (false≢true (cc))
 
--- what was read, and what followed
-record Took (x : Read) (next : Readings → Answer) (r : TestResult) : Type 0 where
-  readings : Readings
-  read : x ≡ Units readings
-  then : next readings ≡ Result r
-
-took : {r : TestResult} (x : Read) (next : Readings → Answer) → onRead x next ≡ Result r → Took x next r
-took (Units readings) next e = record { readings = readings; read = refl; then = e }
-took (reads.Refused refusal) next e = absurd (let z : _≡_ {A = ℕ} 0 1 = cc in let no : ⊥ = omega arith in no)
+took-test : {r : TestResult} (x : Read) (next : Readings → Answer) → onRead x next ≡ Result r → Took Units x next (Result r)
+took-test (Units readings) next e = record { held = readings; taken = refl; then = e }
+took-test (reads.Refused refusal) next e = absurd (false≢true (cc))
 
 -- the sheet was accepted, the readings were read, and dilution and humidity accepted
 pub record AcceptedResult (s : BagSheet) (r : TestResult) : Type 0 where
@@ -42,7 +36,7 @@ pub accepted-result : {s : BagSheet} {r : TestResult} → testAnswer s ≡ Resul
 unfolding testAnswer readAnswer
 accepted-result {s} {r} e =
     let outer = handed (judgeSheet s) (onRead (readIn s) (readAnswer s)) e in
-    let t = took (readIn s) (readAnswer s) (outer .1) in
-    let inner = handed (judgeLate s (t .readings)) (Result (resultOf s (partsIn s (t .readings)))) (t .then) in
+    let t = took-test (readIn s) (readAnswer s) (outer .1) in
+    let inner = handed (judgeLate s (t .held)) (Result (resultOf s (partsIn s (t .held)))) (t .then) in
     let same = inner .1 in
-    record { sheet = outer .0; readings = t .readings; read = t .read; late = inner .0; result = cc }
+    record { sheet = outer .0; readings = t .held; read = t .taken; late = inner .0; result = cc }

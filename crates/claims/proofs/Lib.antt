@@ -2,6 +2,7 @@ pub mod Unique
 pub mod Checks
 pub mod Table
 pub mod Accepted
+pub mod Units
 pub mod Gases
 pub mod Stages
 pub mod Contained

@@ -1,6 +1,6 @@
 -- One law a stage: where the exact values of what it is given are between their ends, its own exact value is between its ends. Assumes nothing.
 use mathlib.Core.Path.{_≡_, refl, ap}
-use Prim.Native.Nat.{ℕ, _+_, _-_, _*_, _≤_, _<_}
+use Prim.Native.Nat.{ℕ, zero, suc, _+_, _-_, _*_, _≤_, _<_}
 use native.Mathlib.Omega.{arith}
 use lib.IntN.{ℤ, pos, negsuc, _+ℤ_, _-ℤ_, _*ℤ_}
 use lib.Signed.{_≤ℤ_}
@@ -10,24 +10,15 @@ use Rattle.arith.specs.Fraction.{Fraction, whole, _+ᶠ_, _-ᶠ_, _*ᶠ_, _/ᶠ
 use Rattle.arith.proofs.Parts.{up, zs, add-parts, sub-parts, mul-parts}
 use Rattle.arith.proofs.Ring.{one-mul, mul-one, mul-pos, products}
 use Rattle.arith.proofs.Enclosure.{exactly-holds, sum-holds, difference-holds, scaled-holds, product-holds, divided-holds, same-value}
-use Rattle.reading.specs.declared.Message.{Message}
-use Rattle.reading.specs.declared.Reading.the-variants.{Units}
-use Rattle.reading.specs.Units.{unitsOf}
-use Rattle.reading.proofs.Usable.{usable}
 use Rattle.stage.specs.declared.Weights.{Weights}
 use Rattle.stage.specs.Combination.{combinationOf}
 use Rattle.stage.specs.Part.{gtr, kelvinOf, volumeOf, concentrationOf, gasVolumeOf, massOf, vapourOf, dryOf, khOf, noxMassOf, rateOf}
-use Rattle.stage.specs.Test.{weightedOf, fuelOf}
+use Rattle.stage.specs.Test.{weightsOf, weightedOf, fuelOf}
 use Rattle.stage.specs.Ranges.{VolumeRanges, KhRanges}
 use Rattle.stage.proofs.Sizes.{kelvin-least, vapour-most, divisor-least}
 use Rattle.bag.specs.declared.Part.{Part}
 use Rattle.part.specs.Part.{volumeIn}
-use Rattle.claims.specs.Exact.{count, decimal, units, exactVolume, exactH, exactKh}
-
--- ---- readings: one number each
-pub reading-holds : (message : Message) {ends : Ends} → unitsOf message ≡ Units ends → Between ends (units message)
-unfolding exactly
-reading-holds message {ends} h = let u = usable message h in rw (h, u .exact) (exactly-holds (pos (u .units)))
+use Rattle.claims.specs.Exact.{count, decimal, exactVolume, exactH, exactKh, percentOf}
 
 -- ---- fractions of naturals
 abbrev ratio : ℕ → ℕ → Fraction
@@ -127,12 +118,20 @@ pub rate-holds : {mass : Ends} {m : Fraction} (distance : ℕ) → 0 < distance 
 unfolding rateOf
 rate-holds distance h m = divided-holds (scaled-holds m (pos 1000)) (pos distance) (omega zs)
 
--- ---- the whole test
+-- ---- the whole test. The core's weights are 01's percentages
+pub percent-is : (class : ℕ) → 1 ≤ class → class ≤ 3 → weightsOf class ≡ percentOf class
+percent-is zero l h = absurd (omega arith)
+percent-is (suc zero) l h = refl
+percent-is (suc (suc zero)) l h = refl
+percent-is (suc (suc (suc zero))) l h = refl
+percent-is (suc (suc (suc (suc class)))) l h = absurd (omega arith)
+
 pub weighted-holds :
-    {first second third : Ends} {x y z : Fraction} (w : Weights) → Between first x → Between second y → Between third z →
-    Between (weightedOf w first second third) ((count (w .first) *ᶠ x +ᶠ count (w .second) *ᶠ y +ᶠ count (w .third) *ᶠ z) /ᶠ count 100)
+    {first second third : Ends} {x y z : Fraction} (w percent : Weights) → w ≡ percent → Between first x → Between second y → Between third z →
+    Between (weightedOf w first second third) ((count (percent .first) *ᶠ x +ᶠ count (percent .second) *ᶠ y +ᶠ count (percent .third) *ᶠ z) /ᶠ count 100)
 unfolding weightedOf
-weighted-holds w x y z = divided-holds (combination-holds (w .first) (w .second) (w .third) x y z) (pos 100) (omega zs)
+weighted-holds w percent e x y z =
+    rw e (divided-holds (combination-holds (percent .first) (percent .second) (percent .third) x y z) (pos 100) (omega zs))
 
 pub fuel-holds :
     {hc co co2 : Ends} {x y z : Fraction} (k f1 f2 f3 density : ℕ) → 0 < density → Between hc x → Between co y → Between co2 z →

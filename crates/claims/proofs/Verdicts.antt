@@ -2,9 +2,8 @@
 -- the limit is at or above the lower end and below the upper. Assumes nothing.
 use mathlib.Core.Path.{_≡_, refl}
 use mathlib.Core.Logic.{⊎-elim}
-use mathlib.Core.Bool.{Bool, true, false, cond}
+use mathlib.Core.Bool.{Bool, true, false, cond, false≢true}
 use Prim.Native.Nat.{ℕ}
-use native.Mathlib.Omega.{arith}
 use lib.IntN.{ℤ, pos}
 use lib.Signed.{_≤ℤ_, _<ℤ_, leZ, ltZ, clashℤ, <ℤ-≤ℤ-trans}
 use Rattle.arith.specs.declared.Ends.{Ends}
@@ -21,6 +20,7 @@ use Rattle.emission.specs.declared.TestResult.{TestResult}
 use Rattle.emission.specs.declared.Answer.the-variants.{Result}
 use Rattle.emission.specs.Test.{partsIn, verdictsOf, resultOf, testAnswer}
 use Rattle.emission.proofs.Each.{verdict-at}
+use Rattle.claims.specs.Exact.{TestUnits, TestConverted}
 use Rattle.claims.specs.Statements.{Justified, JustifiedIn}
 use Rattle.claims.proofs.Accepted.{accepted-result}
 use Rattle.claims.proofs.Contained.{contained}
@@ -28,10 +28,6 @@ use Rattle.claims.proofs.Contained.{contained}
 -- a test that failed, strictly
 above : {a b : ℤ} → leZ a b ≡ false → b <ℤ a
 above {a} {b} e = ⊎-elim (λ p. absurd (rw e at (p .le))) (λ p. p) (≤-or-< a b)
-
--- one verdict is not another: `cc` tells them apart by 0 ≡ 1
-unlike : {A : Type 0} → _≡_ {A = ℕ} 0 1 → A
-unlike e = absurd (let none : ⊥ = omega arith in none)
 
 module _ {e : Ends} {q : Fraction} (h : Between e q) (limit : ℕ) where
   pub justified : Justified e q limit (verdictOf e limit)
@@ -42,30 +38,33 @@ module _ {e : Ends} {q : Fraction} (h : Between e q) (limit : ℕ) where
       go true u x y =
           record {
             pass = λ v. ≤-trans (h .below) (mul-mono (q .den) (<-≤ (h .positive)) (le-true x));
-            fail = λ v. unlike (cc);
-            undecided = λ v. unlike (cc);
+            fail = λ v. absurd (false≢true (cc));
+            undecided = λ v. absurd (false≢true (cc));
             only = λ l g. clashℤ g (le-true x);
           }
       go false true x y =
           record {
-            pass = λ v. unlike (cc);
+            pass = λ v. absurd (false≢true (cc));
             fail = λ v. <ℤ-≤ℤ-trans (mul-mono-< (q .den) (h .positive) (lt-true y)) (h .above);
-            undecided = λ v. unlike (cc);
+            undecided = λ v. absurd (false≢true (cc));
             only = λ l g. clashℤ (lt-true y) l;
           }
       go false false x y =
           record {
-            pass = λ v. unlike (cc);
-            fail = λ v. unlike (cc);
+            pass = λ v. absurd (false≢true (cc));
+            fail = λ v. absurd (false≢true (cc));
             undecided = λ v. (lt-false y, above x);
             only = λ l g. refl;
           }
 
 -- the verdicts of a result are those of its weighted ends
-verdicts-in : (s : BagSheet) (r : TestResult) (readings : Readings) → r ≡ resultOf s (partsIn s readings) → r .verdicts ≡ verdictsOf (r .weighted) (s .limits)
+verdicts-in : (s : BagSheet) (r : TestResult) (readings : Readings) →
+    r ≡ resultOf s (partsIn s readings) → r .verdicts ≡ verdictsOf (r .weighted) (s .limits)
 unfolding resultOf
 verdicts-in s r readings e = rw e
 
-pub verdicts : (s : BagSheet) (r : TestResult) → testAnswer s ≡ Result r → (gas : Gas) → JustifiedIn s r gas
+pub verdicts : (s : BagSheet) (u : TestUnits) (r : TestResult) → testAnswer s ≡ Result r → TestConverted s u → (gas : Gas) → JustifiedIn s u r gas
 unfolding verdictsOf
-verdicts s r e gas = rw (verdicts-in s r (accepted-result e .readings) (accepted-result e .result), verdict-at gas) (justified (contained s r e .weighted gas) (limitAt gas (s .limits)))
+verdicts s u r e c gas =
+    let a = accepted-result e in
+    rw (verdicts-in s r (a .readings) (a .result), verdict-at gas) (justified (contained s u r e c .weighted gas) (limitAt gas (s .limits)))

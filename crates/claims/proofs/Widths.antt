@@ -16,11 +16,7 @@ use Rattle.arith.specs.Fitting.{Sized, Narrow}
 use Rattle.arith.proofs.Parts.{zs, mul-parts}
 use Rattle.arith.proofs.Size.{abs-parts, wider-size, product-size, scaled-size, divided-size}
 use Rattle.arith.proofs.Width.{exactly-narrow, wider-narrow, sum-narrow, difference-narrow, scaled-narrow, product-narrow, divided-narrow}
-use Rattle.reading.specs.declared.Message.{Message}
-use Rattle.reading.specs.declared.Reading.the-variants as reading
-use Rattle.reading.specs.Units.{unitsOf}
-use Rattle.reading.proofs.Usable.{usable}
-use Rattle.reading.specs.Gas.{Gas, HC, CO, CO2, isNOx, messageAt}
+use Rattle.reading.specs.Gas.{Gas, HC, CO, CO2, isNOx}
 use Rattle.bag.specs.declared.Part.{Part}
 use Rattle.bag.specs.declared.Triple.{Triple}
 use Rattle.bag.specs.declared.BagSheet.{BagSheet}
@@ -33,25 +29,21 @@ use Rattle.stage.specs.Part.{gtr, kelvinOf, volumeOf, gOf, qOf, concentrationOf
 use Rattle.stage.specs.Test.{weightsOf, weightedOf}
 use Rattle.stage.specs.Ranges.{largestConcentration}
 use Rattle.stage.proofs.Sizes.{kelvin-least, vapour-most, divisor-least, kh-size, weights-whole}
-use Rattle.part.specs.Part.{endsAt, volumeIn, gasMass, massIn, ratesOf, partOf}
+use Rattle.part.specs.Part.{endsAt, gIn, volumeIn, gasMass, massIn, ratesOf, partOf}
 use Rattle.part.specs.Room.{PartRanges}
 use Rattle.part.specs.declared.Sides.{Sides}
-use Rattle.part.specs.declared.PartRead.{PartRead}
-use Rattle.part.specs.declared.PartRead.the-variants as PartRead
-use Rattle.part.specs.Read.{readPart}
-use Rattle.part.proofs.Read.{units-held}
 use Rattle.part.proofs.Each.{each-at}
 use Rattle.emission.specs.declared.Readings.{Readings}
-use Rattle.emission.specs.declared.Read.the-variants.{Units}
-use Rattle.emission.proofs.Taken.{read-parts, third-read}
 use Rattle.part.proofs.Sizes.{volume-ranges, masses-ranges, concentration-sizes, kh-ranges}
 use Rattle.emission.specs.declared.TestResult.{TestResult}
 use Rattle.emission.specs.declared.Answer.the-variants.{Result}
-use Rattle.emission.specs.Test.{readIn, nothing, noPart, thirdPart, partsIn, weightedGases, resultOf, testAnswer}
+use Rattle.emission.specs.Test.{nothing, noPart, thirdPart, partsIn, weightedGases, resultOf, testAnswer}
 use Rattle.emission.specs.Room.{PartsRanges}
 use Rattle.emission.proofs.Ranges.{parts-ranges}
-use Rattle.claims.specs.Statements.{concentrationIn, Ordinary, OrdinaryTest, widthOf}
+use Rattle.claims.specs.Exact.{PartUnits, TestUnits, TestConverted}
+use Rattle.claims.specs.Statements.{concentrationIn, Ordinary, OrdinaryTest, widthOf, provenWidth}
 use Rattle.claims.proofs.Accepted.{accepted-result}
+use Rattle.claims.proofs.Units.{ReadAs, TestReadAs, test-read-as}
 use Rattle.claims.proofs.Gases.{dryMassIn, khIn, mass-at}
 
 -- ---- exact numbers: what is made of them without a rounding has both ends the same
@@ -69,14 +61,14 @@ quotient-narrow : {a : Ends} (d : ℤ) → pos 0 <ℤ d → Narrow 0 a → Narro
 quotient-narrow (pos d) p h = divided-narrow {q = 0} d (omega zs) (wider-narrow (omega arith) h)
 quotient-narrow (negsuc d) p h = absurd (p .lt)
 
-reading-narrow : (message : Message) {ends : Ends} → unitsOf message ≡ reading.Units ends → Narrow 0 ends
-reading-narrow message h = let u = usable message h in rw (u .exact) (exactly-narrow (pos (u .units)))
-
 -- ---- one law a stage
-combination-narrow : {w : ℕ} {a b c : Ends} (j k l : ℕ) → Narrow w a → Narrow w b → Narrow w c → Narrow (j * w + k * w + l * w) (combinationOf j a k b l c)
+combination-narrow : {w : ℕ} {a b c : Ends} (j k l : ℕ) →
+    Narrow w a → Narrow w b → Narrow w c → Narrow (j * w + k * w + l * w) (combinationOf j a k b l c)
 unfolding combinationOf
-combination-narrow j k l a b c =
-    sum-narrow (sum-narrow (scaled-narrow {m = j} (pos j) (omega arith) a) (scaled-narrow {m = k} (pos k) (omega arith) b)) (scaled-narrow {m = l} (pos l) (omega arith) c)
+combination-narrow {w} j k l a b c = sum-narrow (sum-narrow (times j a) (times k b)) (times l c)
+  where
+    times : {e : Ends} (n : ℕ) → Narrow w e → Narrow (n * w) (scaledBy (pos n) e)
+    times n h = scaled-narrow {m = n} (pos n) (omega arith) h
 
 concentration-narrow : {bag air g : Ends} (q : ℕ) → 0 < q → Narrow 0 bag → Narrow 0 air → Narrow 0 g → Narrow 1 (concentrationOf bag air g q)
 unfolding concentrationOf
@@ -85,7 +77,8 @@ concentration-narrow q h bag air g =
     (scaled-exact (pos 16) (difference-narrow (scaled-exact (pos q) bag) (product-exact air (difference-narrow (exactly-narrow (pos q)) g))))
 
 gas-volume-narrow :
-    {volume concentration : Ends} (c w : ℕ) → 200000000 + c ≤ 4096000 * w → Sized 200000000 volume → Sized c concentration → Narrow 1 volume → Narrow 1 concentration → Narrow (suc w) (gasVolumeOf volume concentration)
+    {volume concentration : Ends} (c w : ℕ) → 200000000 + c ≤ 4096000 * w →
+    Sized 200000000 volume → Sized c concentration → Narrow 1 volume → Narrow 1 concentration → Narrow (suc w) (gasVolumeOf volume concentration)
 unfolding gasVolumeOf
 gas-volume-narrow c w room sv sc v k = divided-narrow 4096000 (omega arith) (wider-narrow (omega arith) (product-narrow sv sc v k))
 
@@ -99,29 +92,39 @@ rate-narrow {w} distance h n =
     divided-narrow distance (omega arith) (wider-narrow (mul-le-mul-right w h) (scaled-narrow {m = 1000} (pos 1000) (omega arith) n))
 
 weighted-narrow :
-    {w : ℕ} {first second third : Ends} (weights : Weights) → weights .first + weights .second + weights .third ≡ 100 → Narrow w first → Narrow w second → Narrow w third → Narrow (suc w) (weightedOf weights first second third)
+    {w : ℕ} {first second third : Ends} (weights : Weights) → weights .first + weights .second + weights .third ≡ 100 →
+    Narrow w first → Narrow w second → Narrow w third → Narrow (suc w) (weightedOf weights first second third)
 unfolding weightedOf
 weighted-narrow {w} weights e a b c =
     let f : (weights .first + weights .second + weights .third) * w ≡ 100 * w = ap (λ (n : ℕ). n * w) e in
-    divided-narrow 100 (omega arith) (wider-narrow (omega arith) (combination-narrow (weights .first) (weights .second) (weights .third) a b c))
+    divided-narrow 100 (omega arith)
+    (wider-narrow (omega arith) (combination-narrow (weights .first) (weights .second) (weights .third) a b c))
 
 -- ---- a part
 -- of the mass of each gas
 abbrev massWidth : Gas → ℕ
 massWidth gas = cond (isNOx gas) 1941 245
 
-module _ {t : Triple} {p : Part} {sides : Sides} (part : ℕ) (read : readPart part p ≡ PartRead.Units sides) (r : PartRanges t p sides) (d : 100 ≤ t .d) where
+-- the concentration from what was read
+abbrev concentrationOn : Gas → Triple → Sides → Ends
+concentrationOn gas t sides = concentrationOf (endsAt gas (sides .bag)) (endsAt gas (sides .air)) (gIn t (sides .bag)) (qOf (t .d))
+
+module _ {t : Triple} {p : Part} {sides : Sides} {u : PartUnits} (read : ReadAs sides u) (r : PartRanges t p sides) (d : 100 ≤ t .d) where
   bag-narrow : (gas : Gas) → Narrow 0 (endsAt gas (sides .bag))
-  bag-narrow gas = reading-narrow (messageAt gas (p .bag)) (units-held part p sides read gas .bag)
+  bag-narrow gas = rw (read .bag gas) (exactly-narrow (u .bag gas))
 
   air-narrow : (gas : Gas) → Narrow 0 (endsAt gas (sides .air))
-  air-narrow gas = reading-narrow (messageAt gas (p .air)) (units-held part p sides read gas .air)
+  air-narrow gas = rw (read .air gas) (exactly-narrow (u .air gas))
+
+  concentration-is : (gas : Gas) → concentrationOn gas t sides ≡ concentrationIn gas t u
+  concentration-is gas = rw (read .bag gas, read .air gas, read .bag CO2, read .bag CO, read .bag HC)
 
   volume-narrow : Narrow 1 (volumeIn p)
   unfolding volumeOf
   volume-narrow =
       let warm = kelvin-least (volume-ranges r) in
-      quotient-narrow (pos 101325 *ℤ kelvinOf gtr (p .temperature)) (omega (zs, mul-parts (pos 101325) (kelvinOf gtr (p .temperature)))) (exactly-narrow _)
+      let k = kelvinOf gtr (p .temperature) in
+      quotient-narrow (pos 101325 *ℤ k) (omega (zs, mul-parts (pos 101325) k)) (exactly-narrow _)
 
   -- a volume is not negative
   volume-least : pos 0 ≤ℤ volumeIn p .lower
@@ -134,18 +137,19 @@ module _ {t : Triple} {p : Part} {sides : Sides} (part : ℕ) (read : readPart p
       let l = volume-least in
       record { lower = omega (zs, abs-parts (volumeIn p .lower)); upper = omega (zs, abs-parts (volumeIn p .upper)) }
 
-  concentration-narrow-in : (gas : Gas) → Narrow 1 (concentrationIn gas t sides)
+  concentration-narrow-in : (gas : Gas) → Narrow 1 (concentrationOn gas t sides)
   unfolding gOf
   concentration-narrow-in gas =
       concentration-narrow (qOf (t .d)) (omega arith) (bag-narrow gas) (air-narrow gas)
       (wider-narrow (omega arith) (combination-narrow 10 (t .wc) (t .wh) (bag-narrow CO2) (bag-narrow CO) (bag-narrow HC)))
 
   -- 200,000,000 + 268,435,456 is at most 4,096,000 x 115, and 2,100,000 x 116 at most 1,000,000 x 244
-  dry-mass : (gas : Gas) → Ordinary gas t p sides → Narrow 245 (dryMassIn gas t p sides)
+  dry-mass : (gas : Gas) → Ordinary gas t p u → Narrow 245 (dryMassIn gas t p sides)
   unfolding gasMass
   dry-mass gas o =
       mass-narrow (densityAt gas (p .density)) 116 244 (r .ranged .density gas .1) (omega arith)
-      (gas-volume-narrow largestConcentration 115 (omega arith) (volume-sized (o .volume)) (concentration-sizes (masses-ranges r) gas) volume-narrow (concentration-narrow-in gas))
+      (gas-volume-narrow largestConcentration 115 (omega arith) (volume-sized (o .volume)) (concentration-sizes (masses-ranges r) gas)
+      volume-narrow (concentration-narrow-in gas))
 
   kh-narrow : Narrow 1 (khOf (p .humidity) (p .saturation) (p .barometer))
   unfolding khOf
@@ -158,7 +162,8 @@ module _ {t : Triple} {p : Part} {sides : Sides} (part : ℕ) (read : readPart p
 
   -- within 256 ppm of zero the gas volume is at most 51,200,000 and its ends 51 apart, the mass 107,520,000 and 109 apart; and
   -- 107,520,000 + 179,536 x 109 is at most 65,536 x 1,940
-  nox-mass : (gas : Gas) → Ordinary gas t p sides → Sized 1048576 (concentrationIn gas t sides) → Narrow 1941 (noxMassOf (dryMassIn gas t p sides) (khIn p))
+  nox-mass : (gas : Gas) → Ordinary gas t p u → Sized 1048576 (concentrationOn gas t sides) →
+      Narrow 1941 (noxMassOf (dryMassIn gas t p sides) (khIn p))
   unfolding noxMassOf gasMass massOf gasVolumeOf
   nox-mass gas o c =
       let v = volume-sized (o .volume) in
@@ -166,48 +171,57 @@ module _ {t : Triple} {p : Part} {sides : Sides} (part : ℕ) (read : readPart p
       let most = r .ranged .density gas .1 in
       let gas-size = divided-size {q = 51200000} 4096000 (omega arith) (wider-size (omega arith) (product-size v c)) in
       let mass-size = divided-size {q = 107520000} 1000000 (omega arith) (wider-size (omega arith) (scaled-size (pos d) most gas-size)) in
-      let mass = mass-narrow d 51 108 most (omega arith) (gas-volume-narrow 1048576 50 (omega arith) v c volume-narrow (concentration-narrow-in gas)) in
+      let gas-volume = gas-volume-narrow 1048576 50 (omega arith) v c volume-narrow (concentration-narrow-in gas) in
+      let mass = mass-narrow d 51 108 most (omega arith) gas-volume in
       divided-narrow {q = 1940} 65536 (omega arith) (wider-narrow (omega arith) (product-narrow mass-size (kh-size (kh-ranges r)) mass kh-narrow))
 
-  mass-in : (gas : Gas) → Ordinary gas t p sides → Narrow (massWidth gas) (endsAt gas (massIn t p sides))
+  mass-in : (gas : Gas) → Ordinary gas t p u → Narrow (massWidth gas) (endsAt gas (massIn t p sides))
   mass-in gas o = rw (mass-at gas) (go (isNOx gas) (o .nox))
     where
-      go : (b : Bool) → (b ≡ true → Sized 1048576 (concentrationIn gas t sides)) → Narrow (cond b 1941 245) (cond b (noxMassOf (dryMassIn gas t p sides) (khIn p)) (dryMassIn gas t p sides))
-      go true c = nox-mass gas o (c refl)
+      go : (b : Bool) → (b ≡ true → Sized 1048576 (concentrationIn gas t u)) →
+          Narrow (cond b 1941 245) (cond b (noxMassOf (dryMassIn gas t p sides) (khIn p)) (dryMassIn gas t p sides))
+      go true c = nox-mass gas o (rw (concentration-is gas) (c refl))
       go false c = dry-mass gas o
 
-  rate-in : (gas : Gas) → Ordinary gas t p sides → Narrow (suc (massWidth gas)) (endsAt gas (partOf t p sides .rate))
+  rate-in : (gas : Gas) → Ordinary gas t p u → Narrow (suc (massWidth gas)) (endsAt gas (partOf t p sides .rate))
   unfolding partOf ratesOf
   rate-in gas o = rw (each-at gas) (rate-narrow (p .distance) (o .distance) (mass-in gas o))
 
 -- ---- the test
-module _ {s : BagSheet} {readings : Readings} (t : Tested s) (read : readIn s ≡ Units readings) (r : PartsRanges s readings) where
-  third-in : (gas : Gas) → OrdinaryTest gas s readings → Narrow (suc (massWidth gas)) (endsAt gas (thirdPart s (readings .third) .rate))
+module _ {s : BagSheet} {readings : Readings} {u : TestUnits} (t : Tested s) (read : TestReadAs s readings u) (r : PartsRanges s readings) where
+  third-in : (gas : Gas) → OrdinaryTest gas s u → Narrow (suc (massWidth gas)) (endsAt gas (thirdPart s (readings .third) .rate))
   unfolding thirdPart nothing
   third-in gas o = go (eqb (s .class) 3) (eqb-true (s .class) 3)
     where
-      go : (b : Bool) → (b ≡ true → s .class ≡ 3) → Narrow (suc (massWidth gas)) (endsAt gas (cond b (partOf (s .triple) (s .third) (readings .third)) noPart .rate))
-      go true f = rate-in 3 (third-read (s .class) (s .third) (read-parts read .third) (f refl)) (r .third (f refl)) (t .d .0) gas (o .third (f refl))
+      go : (b : Bool) → (b ≡ true → s .class ≡ 3) →
+          Narrow (suc (massWidth gas)) (endsAt gas (cond b (partOf (s .triple) (s .third) (readings .third)) noPart .rate))
+      go true f = rate-in (read .third (f refl)) (r .third (f refl)) (t .d .0) gas (o .third (f refl))
       go false f = rw (each-at gas) (wider-narrow (omega arith) (exactly-narrow (pos 0)))
 
-  weighted-in : (gas : Gas) → OrdinaryTest gas s readings → Narrow (suc (suc (massWidth gas))) (endsAt gas (resultOf s (partsIn s readings) .weighted))
+  weighted-in : (gas : Gas) → OrdinaryTest gas s u → Narrow (suc (suc (massWidth gas))) (endsAt gas (resultOf s (partsIn s readings) .weighted))
   unfolding resultOf partsIn weightedGases
   weighted-in gas o =
       rw (each-at gas)
       (weighted-narrow (weightsOf (s .class)) (weights-whole (s .class) (t .class .0) (t .class .1))
-      (rate-in 1 (read-parts read .first) (r .first) (t .d .0) gas (o .first)) (rate-in 2 (read-parts read .second) (r .second) (t .d .0) gas (o .second)) (third-in gas o))
+      (rate-in (read .first) (r .first) (t .d .0) gas (o .first)) (rate-in (read .second) (r .second) (t .d .0) gas (o .second)) (third-in gas o))
 
--- each stage after the mass adds one
-room : (b : Bool) → suc (suc (cond b 1941 245)) ≤ cond b 2000 300
-room true = omega arith
-room false = omega arith
+-- each of the two stages after the mass adds one
+two-more : (b : Bool) → suc (suc (cond b 1941 245)) ≤ cond b 1943 247
+two-more true = omega arith
+two-more false = omega arith
 
-pub widths : (s : BagSheet) (r : TestResult) (readings : Readings) → testAnswer s ≡ Result r → readIn s ≡ Units readings → (gas : Gas) → OrdinaryTest gas s readings → Narrow (widthOf gas) (endsAt gas (r .weighted))
-widths s r readings e read gas o =
-    let a = accepted-result e in
-    let sound = accepted-sound s (a .sheet) in
-    let first = a .read in
-    let same : a .readings ≡ readings = cc in
-    let late = rw same at (a .late) in
-    let result = rw same at (a .result) in
-    rw result (wider-narrow (room (isNOx gas)) (weighted-in (sound .tested) read (parts-ranges sound read late) gas o))
+module _ (s : BagSheet) (u : TestUnits) (r : TestResult) (e : testAnswer s ≡ Result r) (c : TestConverted s u) where
+  pub proven-widths : (gas : Gas) → OrdinaryTest gas s u → Narrow (provenWidth gas) (endsAt gas (r .weighted))
+  proven-widths gas o =
+      let a = accepted-result e in
+      let sound = accepted-sound s (a .sheet) in
+      let ranges = parts-ranges sound (a .read) (a .late) in
+      rw (a .result) (wider-narrow (two-more (isNOx gas)) (weighted-in (sound .tested) (test-read-as (a .read) c) ranges gas o))
+
+  -- which is within what is asked
+  pub widths : (gas : Gas) → OrdinaryTest gas s u → Narrow (widthOf gas) (endsAt gas (r .weighted))
+  widths gas o = wider-narrow (go (isNOx gas)) (proven-widths gas o)
+    where
+      go : (b : Bool) → cond b 1943 247 ≤ cond b 2000 300
+      go true = omega arith
+      go false = omega arith

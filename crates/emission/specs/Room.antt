@@ -7,15 +7,13 @@ use Rattle.bag.specs.declared.BagSheet.{BagSheet}
 use Rattle.bag.specs.declared.Fuel.{Fuel}
 use Rattle.bag.specs.declared.Limits.{Limits}
 use Rattle.bag.specs.Sheet.{limitAt}
-use Rattle.bag.specs.Sound.{Tested, Ranged, Sound}
+use Rattle.bag.specs.Sound.{Tested, Ranged}
 use Rattle.stage.specs.declared.Weights.{Weights}
 use Rattle.part.specs.declared.Gases.{Gases}
 use Rattle.part.specs.Part.{endsAt}
 use Rattle.part.specs.Room.{ReadingSizes, TripleRanges, PartRanges, largestMassOf}
 use Rattle.emission.specs.declared.Readings.{Readings}
-use Rattle.emission.specs.declared.Read.the-variants.{Units}
 use Rattle.emission.specs.declared.Parts.{Parts}
-use Rattle.emission.specs.Test.{readIn}
 
 -- refusals 13 and 14
 pub record LateRanges (s : BagSheet) (r : Readings) : Type 0 where
@@ -59,8 +57,3 @@ pub record ResultRanges (s : BagSheet) (parts : Parts) : Type 0 where
   pub first-sizes : RateSizes (parts .first .rate)
   pub second-sizes : RateSizes (parts .second .rate)
   pub third-sizes : RateSizes (parts .third .rate)
-
--- past refusal 12
-pub record ReadSheet (s : BagSheet) (r : Readings) : Type 0 where
-  pub sound : Sound s
-  pub read : readIn s ≡ Units r

@@ -1,4 +1,4 @@
--- The whole test (01, Bag sheet and figures): refusals 13 and 14, the parts, the weighted result, the fuel and the verdicts.
+-- The whole test (01, Bag sheet and figures): the readings or refusal 12, refusals 13 and 14, the parts, the weighted result, the fuel and the verdicts.
 use mathlib.Core.Bool.{Bool, cond}
 use mathlib.Core.List.{List, [], _∷_, _++_}
 use Prim.Native.Nat.{ℕ}
@@ -25,7 +25,7 @@ use Rattle.part.specs.declared.PartResult.{PartResult}
 use Rattle.part.specs.declared.Sides.{Sides}
 use Rattle.part.specs.declared.PartRead.{PartRead}
 use Rattle.part.specs.declared.PartRead.the-variants as partRead
-use Rattle.part.specs.Read.{readPart}
+use Rattle.part.specs.Read.{readPart, readingChecks}
 use Rattle.part.specs.Part.{endsAt, each, diluted, dryEnough, partOf}
 use Rattle.emission.specs.declared.Readings.{Readings}
 use Rattle.emission.specs.declared.Read.{Read}
@@ -44,13 +44,21 @@ nothing = each (λ gas. exactly (pos 0))
 unfoldable pub readThird : ℕ → Part → PartRead
 readThird class third = cond (eqb class 3) (readPart 3 third) (partRead.Units (record { bag = nothing; air = nothing }))
 
+-- what follows a part that was read
 abbrev pub onPart : PartRead → (Sides → Read) → Read
 onPart (partRead.Units sides) next = next sides
 onPart (partRead.Refused refusal) next = read.Refused refusal
 
 unfoldable pub readIn : BagSheet → Read
 readIn s =
-    onPart (readPart 1 (s .first)) (λ first. onPart (readPart 2 (s .second)) (λ second. onPart (readThird (s .class) (s .third)) (λ third. read.Units (record { first = first; second = second; third = third }))))
+    onPart (readPart 1 (s .first)) λ first.
+    onPart (readPart 2 (s .second)) λ second.
+    onPart (readThird (s .class) (s .third)) λ third.
+    read.Units (record { first = first; second = second; third = third })
+
+-- 12 as the table has it
+unfoldable pub messageChecks : BagSheet → List Check
+messageChecks s = readingChecks 1 (s .first) ++ (readingChecks 2 (s .second) ++ ofThird (s .class) (readingChecks 3 (s .third)))
 
 -- ---- refusals 13 and 14, over all parts each, the lowest number first
 -- 13: "G not below Q"

@@ -21,8 +21,8 @@ ghost use Rattle.bag.specs.Sheet.{ofThird};
 ghost use Rattle.bag.specs.Sound.{Ranged};
 ghost use Rattle.part.specs.Part.{diluted, dryEnough};
 ghost use Rattle.part.specs.Room.{ReadingSizes, TripleRanges, PartRanges};
-ghost use Rattle.emission.specs.Test.{readThird, readIn, dilution, humidity, judgeLate, nothing, noPart, thirdPart, partsIn, weightedGases, verdictsOf, fuelIn, resultOf, readAnswer, testAnswer};
-ghost use Rattle.emission.specs.Room.{LateRanges, PartsRanges, RateSizes, WeighRanges, LimitRanges, FuelSheet, ResultRanges, ReadSheet};
+ghost use Rattle.emission.specs.Test.{readThird, readIn, dilution, humidity, judgeLate, nothing, noPart, thirdPart, partsIn, weightedGases, verdictsOf, fuelIn, resultOf, testAnswer};
+ghost use Rattle.emission.specs.Room.{LateRanges, PartsRanges, RateSizes, WeighRanges, LimitRanges, FuelSheet, ResultRanges};
 
 // The readings of a test in units.
 pub struct Readings {
@@ -80,20 +80,23 @@ fn read_third(class: u32, third: Part) -> PartRead
 fn readings_in(s: BagSheet) -> Read
     ensures { λ r. ⌜ r ≡ readIn s ⌝ }
 {
-    match part::read_part(1, s.first) {
-        PartRead::Refused(refusal) => Read::Refused(refusal),
-        PartRead::Units(first) => match part::read_part(2, s.second) {
-            PartRead::Refused(refusal) => Read::Refused(refusal),
-            PartRead::Units(second) => match read_third(s.class, s.third) {
-                PartRead::Refused(refusal) => Read::Refused(refusal),
-                PartRead::Units(third) => Read::Units(Readings {
-                    first,
-                    second,
-                    third,
-                }),
-            },
-        },
-    }
+    let first = match part::read_part(1, s.first) {
+        PartRead::Units(first) => first,
+        PartRead::Refused(refusal) => return Read::Refused(refusal),
+    };
+    let second = match part::read_part(2, s.second) {
+        PartRead::Units(second) => second,
+        PartRead::Refused(refusal) => return Read::Refused(refusal),
+    };
+    let third = match read_third(s.class, s.third) {
+        PartRead::Units(third) => third,
+        PartRead::Refused(refusal) => return Read::Refused(refusal),
+    };
+    Read::Units(Readings {
+        first,
+        second,
+        third,
+    })
 }
 
 // Refusal 13.
@@ -248,26 +251,19 @@ fn result_of(s: BagSheet, parts: Parts) -> TestResult
     }
 }
 
-// Past refusal 12: 13 and 14, or the result.
-fn test_read(s: BagSheet, readings: Readings) -> Answer
-    requires { ⌜ ReadSheet s readings ⌝ }
-    ensures { λ r. ⌜ r ≡ readAnswer s readings ⌝ }
-{
-    match judge_late(s, readings) {
-        Judged::Refused(refusal) => Answer::Refused(refusal),
-        Judged::Accepted => Answer::Result(result_of(s, parts_in(s, readings))),
-    }
-}
-
-// The full result of a test, or its first refusal, 10 to 14.
+// The full result of a test, or its first refusal: 10 and 11, then 12, then 13 and 14.
 pub fn test(s: BagSheet) -> Answer
     ensures { λ r. ⌜ r ≡ testAnswer s ⌝ }
 {
-    match bag::judge(s) {
-        Judged::Refused(refusal) => Answer::Refused(refusal),
-        Judged::Accepted => match readings_in(s) {
-            Read::Refused(refusal) => Answer::Refused(refusal),
-            Read::Units(readings) => test_read(s, readings),
-        },
+    if let Judged::Refused(refusal) = bag::judge(s) {
+        return Answer::Refused(refusal);
     }
+    let readings = match readings_in(s) {
+        Read::Units(readings) => readings,
+        Read::Refused(refusal) => return Answer::Refused(refusal),
+    };
+    if let Judged::Refused(refusal) = judge_late(s, readings) {
+        return Answer::Refused(refusal);
+    }
+    Answer::Result(result_of(s, parts_in(s, readings)))
 }

@@ -1,15 +1,17 @@
--- 12 and the readings together: each message is converted once, in the table's order, and where one is unusable there are no ends.
+-- Refusal 12 and the readings together: each message is converted once, in the table's order ("gases go HC, CO, NOx, CO2, bag before air"). The first that
+-- is unusable is the refusal, and then there are no ends.
+use mathlib.Core.Bool.{Bool, true, false}
+use mathlib.Core.List.{List, [], _∷_}
 use Prim.Native.Nat.{ℕ}
-use Rattle.arith.specs.declared.Ends.{Ends}
-use Rattle.refusal.specs.declared.Refusal.{Refusal}
 use Rattle.refusal.specs.declared.Refusal.the-variants.{Reading}
 use Rattle.refusal.specs.declared.Judged.{Judged}
 use Rattle.refusal.specs.declared.Judged.the-variants as judged
+use Rattle.refusal.specs.Judging.{Check}
 use Rattle.reading.specs.declared.Message.{Message}
 use Rattle.reading.specs.declared.Reading as read
 use Rattle.reading.specs.declared.Reading.the-variants as reading
 use Rattle.reading.specs.Units.{unitsOf}
-use Rattle.reading.specs.Gas.{Gas, HC, CO, NOx, CO2, numberOf, among, messageAt}
+use Rattle.reading.specs.Gas.{Gas, HC, CO, NOx, CO2, numberOf, among, along, messageAt}
 use Rattle.bag.specs.declared.Part.{Part}
 use Rattle.part.specs.declared.Pair.{Pair}
 use Rattle.part.specs.declared.Sides.{Sides}
@@ -19,31 +21,47 @@ use Rattle.part.specs.declared.PartRead.{PartRead}
 use Rattle.part.specs.declared.PartRead.the-variants as partRead
 use Rattle.part.specs.Part.{each}
 
--- what follows a usable message; an unusable one is the refusal
-abbrev pub onUnits : read.Reading → Refusal → (Ends → GasRead) → GasRead
-onUnits (reading.Units ends) refusal next = next ends
-onUnits reading.Unusable refusal next = gasRead.Refused refusal
+-- a gas of a part, from its two messages as converted
+unfoldable pub readGas : ℕ → ℕ → read.Reading → read.Reading → GasRead
+readGas part gas reading.Unusable air = gasRead.Refused (Reading part gas 1)
+readGas part gas (reading.Units inBag) reading.Unusable = gasRead.Refused (Reading part gas 2)
+readGas part gas (reading.Units inBag) (reading.Units inAir) = gasRead.Units (record { bag = inBag; air = inAir })
 
--- "bag before air"
-unfoldable pub readGas : ℕ → ℕ → Message → Message → GasRead
-readGas part gas bag air =
-    onUnits (unitsOf bag) (Reading part gas 1) (λ b. onUnits (unitsOf air) (Reading part gas 2) (λ a. gasRead.Units (record { bag = b; air = a })))
-
+-- what follows a gas that was read
 abbrev pub onGas : GasRead → (Pair → PartRead) → PartRead
 onGas (gasRead.Units pair) next = next pair
 onGas (gasRead.Refused refusal) next = partRead.Refused refusal
 
 abbrev pub gasOf : ℕ → Part → Gas → GasRead
-gasOf part p gas = readGas part (numberOf gas) (messageAt gas (p .bag)) (messageAt gas (p .air))
+gasOf part p gas = readGas part (numberOf gas) (unitsOf (messageAt gas (p .bag))) (unitsOf (messageAt gas (p .air)))
 
 unfoldable pub sidesFrom : Pair → Pair → Pair → Pair → Sides
 sidesFrom hc co nox co2 = record { bag = each (λ gas. among gas hc co nox co2 .bag); air = each (λ gas. among gas hc co nox co2 .air) }
 
 unfoldable pub readPart : ℕ → Part → PartRead
 readPart part p =
-    onGas (gasOf part p HC) (λ hc. onGas (gasOf part p CO) (λ co. onGas (gasOf part p NOx) (λ nox. onGas (gasOf part p CO2) (λ co2. partRead.Units (sidesFrom hc co nox co2)))))
+    onGas (gasOf part p HC) λ hc.
+    onGas (gasOf part p CO) λ co.
+    onGas (gasOf part p NOx) λ nox.
+    onGas (gasOf part p CO2) λ co2.
+    partRead.Units (sidesFrom hc co nox co2)
 
 -- as a judgement
 abbrev pub judgedPart : PartRead → Judged
 judgedPart (partRead.Units sides) = judged.Accepted
 judgedPart (partRead.Refused refusal) = judged.Refused refusal
+
+-- ---- as the table has it: one check for each message
+abbrev pub usable : read.Reading → Bool
+usable (reading.Units ends) = true
+usable reading.Unusable = false
+
+-- 12: "reading unusable"
+abbrev pub readingCheck : ℕ → ℕ → ℕ → Message → Check
+readingCheck part gas side message = record { holds = usable (unitsOf message); refusal = Reading part gas side }
+
+abbrev pub gasChecks : ℕ → Part → Gas → List Check
+gasChecks part p gas = readingCheck part (numberOf gas) 1 (messageAt gas (p .bag)) ∷ readingCheck part (numberOf gas) 2 (messageAt gas (p .air)) ∷ []
+
+unfoldable pub readingChecks : ℕ → Part → List Check
+readingChecks part p = along (gasChecks part p)

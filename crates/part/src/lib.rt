@@ -6,6 +6,7 @@ use bag::Triple;
 use reading::Message;
 use refusal::Refusal;
 ghost use mathlib.Core.Path.{_≡_};
+ghost use Rattle.reading.specs.Units.{unitsOf};
 ghost use Rattle.part.specs.Part.{gIn, diluted, dryEnough, gasMass, massesOf, volumeIn, correctedFor, ratesOf, massIn, partOf};
 ghost use Rattle.part.specs.Read.{readGas, sidesFrom, readPart};
 ghost use Prim.Native.Nat.{_≤_};
@@ -55,7 +56,7 @@ pub enum PartRead {
 
 // Each message is converted once, the bag's before the air's: the ends of both, or refusal 12.
 fn read_gas(part: u32, gas: u32, bag: Message, air: Message) -> GasRead
-    ensures { λ r. ⌜ r ≡ readGas part gas bag air ⌝ }
+    ensures { λ r. ⌜ r ≡ readGas part gas (unitsOf bag) (unitsOf air) ⌝ }
 {
     let reading::Reading::Units(in_bag) = reading::convert(bag) else {
         return GasRead::Refused(Refusal::Reading { part, gas, side: 1 });
@@ -95,6 +96,7 @@ fn sides_from(hc: Pair, co: Pair, nox: Pair, co2: Pair) -> Sides
     Sides { bag, air }
 }
 
+// The ends of every gas, in the table's order, or the first refusal.
 pub fn read_part(part: u32, p: Part) -> PartRead
     ensures { λ r. ⌜ r ≡ readPart part p ⌝ }
 {
@@ -108,19 +110,23 @@ pub fn read_part(part: u32, p: Part) -> PartRead
     let air_nox = air.nox;
     let bag_co2 = bag.co2;
     let air_co2 = air.co2;
-    match read_gas(part, 1, bag_hc, air_hc) {
-        GasRead::Refused(refusal) => PartRead::Refused(refusal),
-        GasRead::Units(hc) => match read_gas(part, 2, bag_co, air_co) {
-            GasRead::Refused(refusal) => PartRead::Refused(refusal),
-            GasRead::Units(co) => match read_gas(part, 3, bag_nox, air_nox) {
-                GasRead::Refused(refusal) => PartRead::Refused(refusal),
-                GasRead::Units(nox) => match read_gas(part, 4, bag_co2, air_co2) {
-                    GasRead::Refused(refusal) => PartRead::Refused(refusal),
-                    GasRead::Units(co2) => PartRead::Units(sides_from(hc, co, nox, co2)),
-                },
-            },
-        },
-    }
+    let hc = match read_gas(part, 1, bag_hc, air_hc) {
+        GasRead::Units(hc) => hc,
+        GasRead::Refused(refusal) => return PartRead::Refused(refusal),
+    };
+    let co = match read_gas(part, 2, bag_co, air_co) {
+        GasRead::Units(co) => co,
+        GasRead::Refused(refusal) => return PartRead::Refused(refusal),
+    };
+    let nox = match read_gas(part, 3, bag_nox, air_nox) {
+        GasRead::Units(nox) => nox,
+        GasRead::Refused(refusal) => return PartRead::Refused(refusal),
+    };
+    let co2 = match read_gas(part, 4, bag_co2, air_co2) {
+        GasRead::Units(co2) => co2,
+        GasRead::Refused(refusal) => return PartRead::Refused(refusal),
+    };
+    PartRead::Units(sides_from(hc, co, nox, co2))
 }
 
 pub fn g_in(triple: Triple, bag: Gases) -> Ends
