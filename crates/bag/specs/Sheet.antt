@@ -4,7 +4,6 @@ use mathlib.Core.Bool.{Bool, _&&_, cond}
 use mathlib.Core.List.{List, [], _∷_, _++_}
 use Prim.Native.Nat.{ℕ, _*_}
 use lib.Dec.{leb, eqb}
-use lib.IntN.{pos, negsuc}
 use Rattle.refusal.specs.declared.Judged.{Judged}
 use Rattle.refusal.specs.declared.Refusal.the-variants.{Parts, Value}
 use Rattle.refusal.specs.Judging.{Check, judgedBy}
@@ -16,6 +15,8 @@ use Rattle.bag.specs.declared.Densities.{Densities}
 use Rattle.bag.specs.declared.Limits.{Limits}
 use Rattle.bag.specs.declared.Part.{Part}
 use Rattle.bag.specs.declared.BagSheet.{BagSheet}
+use Rattle.bag.specs.Fields.{isWithin, pumpRange, revolutionsRange, mostPumped, barometerRange, depressionRange, coldest, hottest, humidityRange}
+use Rattle.bag.specs.Fields.{saturationRange, distanceRange, densityRange, dRange, wRange, kRange, factorRange, fuelDensityRange, mostLimit}
 
 abbrev pub densityAt : Gas → Densities → ℕ
 densityAt gas d = among gas (d .hc) (d .co) (d .nox) (d .co2)
@@ -39,35 +40,41 @@ abbrev pub value : ℕ → ℕ → Bool → Check
 value part field holds = record { holds = holds; refusal = Value part field }
 
 -- "10 to 12 per test"
+abbrev pub limitCheck : Limits → Gas → List Check
+limitCheck limits gas = value 0 12 (leb (limitAt gas limits) mostLimit) ∷ []
+
 unfoldable pub testChecks : Triple → Fuel → Limits → List Check
 testChecks triple fuel limits =
-    value 0 10 (within 100 200 (triple .d))
-    ∷ value 0 10 (within 0 20 (triple .wc))
-    ∷ value 0 10 (within 0 20 (triple .wh))
-    ∷ value 0 11 (within 1 1500 (fuel .k))
-    ∷ value 0 11 (within 0 1000 (fuel .hc))
-    ∷ value 0 11 (within 0 1000 (fuel .co))
-    ∷ value 0 11 (within 0 1000 (fuel .co2))
-    ∷ value 0 11 (within 600 1000 (fuel .density))
-    ∷ along (λ gas. value 0 12 (leb (limitAt gas limits) 1000000000000) ∷ [])
+    value 0 10 (isWithin dRange (triple .d))
+    ∷ value 0 10 (isWithin wRange (triple .wc))
+    ∷ value 0 10 (isWithin wRange (triple .wh))
+    ∷ value 0 11 (isWithin kRange (fuel .k))
+    ∷ value 0 11 (isWithin factorRange (fuel .hc))
+    ∷ value 0 11 (isWithin factorRange (fuel .co))
+    ∷ value 0 11 (isWithin factorRange (fuel .co2))
+    ∷ value 0 11 (isWithin fuelDensityRange (fuel .density))
+    ∷ along (limitCheck limits)
 
 -- "with field 1 at most 10^9 ml", which is field 2
 abbrev pub pumped : ℕ → ℕ → Bool
-pumped pump revolutions = leb (pump * revolutions) 1000000000
+pumped pump revolutions = leb (pump * revolutions) mostPumped
 
 -- "Fields 1 to 9 are per part"
+abbrev pub densityCheck : ℕ → Densities → Gas → List Check
+densityCheck part density gas = value part 9 (isWithin densityRange (densityAt gas density)) ∷ []
+
 unfoldable pub valueChecks : ℕ → Part → List Check
 valueChecks part p =
-    value part 1 (within 100 20000 (p .pump))
-    ∷ value part 2 (within 1 100000 (p .revolutions))
+    value part 1 (isWithin pumpRange (p .pump))
+    ∷ value part 2 (isWithin revolutionsRange (p .revolutions))
     ∷ value part 2 (pumped (p .pump) (p .revolutions))
-    ∷ value part 3 (within 80000 110000 (p .barometer))
-    ∷ value part 4 (within 0 20000 (p .depression))
-    ∷ value part 5 (withinℤ (negsuc 399) (pos 1500) (p .temperature))
-    ∷ value part 6 (within 0 1000 (p .humidity))
-    ∷ value part 7 (within 0 12000 (p .saturation))
-    ∷ value part 8 (within 100 100000 (p .distance))
-    ∷ along (λ gas. value part 9 (within 1 2100000 (densityAt gas (p .density))) ∷ [])
+    ∷ value part 3 (isWithin barometerRange (p .barometer))
+    ∷ value part 4 (isWithin depressionRange (p .depression))
+    ∷ value part 5 (withinℤ coldest hottest (p .temperature))
+    ∷ value part 6 (isWithin humidityRange (p .humidity))
+    ∷ value part 7 (isWithin saturationRange (p .saturation))
+    ∷ value part 8 (isWithin distanceRange (p .distance))
+    ∷ along (densityCheck part (p .density))
 
 -- the checks of the third part, which class 3 alone has
 abbrev pub ofThird : ℕ → List Check → List Check

@@ -5,10 +5,10 @@ use refusal::Judged;
 use refusal::Refusal;
 ghost use mathlib.Core.Path.{_≡_};
 ghost use lib.Dec.{leb};
-ghost use lib.IntN.{pos, negsuc};
 ghost use Rattle.refusal.specs.declared.Refusal.the-variants.{Value};
 ghost use Rattle.refusal.specs.Judging.{checked, checkedAll};
 ghost use Rattle.refusal.specs.Ranges.{within, withinℤ};
+ghost use Rattle.bag.specs.Fields.{isWithin, coldest, hottest, densityRange, mostLimit};
 ghost use Rattle.bag.specs.Sheet.{partsOf, classHolds, testChecks, pumped, valueChecks, ofThird, judgeSheet};
 
 // Field 9: milligrams per cubic metre.
@@ -99,9 +99,16 @@ fn value(part: u32, field: u32, least: u32, most: u32, n: u32, rest: Judged) -> 
     )
 }
 
+// A density of field 9.
+fn density(part: u32, n: u32, rest: Judged) -> Judged
+    ensures { λ r. ⌜ r ≡ checked (isWithin densityRange n) (Value part 9) rest ⌝ }
+{
+    value(part, 9, 1, 2100000, n, rest)
+}
+
 // A limit of field 12.
 fn limit(n: u64, rest: Judged) -> Judged
-    ensures { λ r. ⌜ r ≡ checked (leb n 1000000000000) (Value 0 12) rest ⌝ }
+    ensures { λ r. ⌜ r ≡ checked (leb n mostLimit) (Value 0 12) rest ⌝ }
 {
     refusal::check(
         n <= 1000000000000,
@@ -112,7 +119,7 @@ fn limit(n: u64, rest: Judged) -> Judged
 
 // Field 5, which may be below zero.
 fn temperature(part: u32, n: i32, rest: Judged) -> Judged
-    ensures { λ r. ⌜ r ≡ checked (withinℤ (negsuc 399) (pos 1500) n) (Value part 5) rest ⌝ }
+    ensures { λ r. ⌜ r ≡ checked (withinℤ coldest hottest n) (Value part 5) rest ⌝ }
 {
     refusal::check(
         (-400 <= n) & (n <= 1500),
@@ -151,10 +158,10 @@ fn test_values(triple: Triple, fuel: Fuel, limits: Limits, rest: Judged) -> Judg
 fn part_values(part: u32, p: Part, rest: Judged) -> Judged
     ensures { λ r. ⌜ r ≡ checkedAll (valueChecks part p) rest ⌝ }
 {
-    let co2 = value(part, 9, 1, 2100000, p.density.co2, rest);
-    let nox = value(part, 9, 1, 2100000, p.density.nox, co2);
-    let co = value(part, 9, 1, 2100000, p.density.co, nox);
-    let hc = value(part, 9, 1, 2100000, p.density.hc, co);
+    let co2 = density(part, p.density.co2, rest);
+    let nox = density(part, p.density.nox, co2);
+    let co = density(part, p.density.co, nox);
+    let hc = density(part, p.density.hc, co);
     let distance = value(part, 8, 100, 100000, p.distance, hc);
     let saturation = value(part, 7, 0, 12000, p.saturation, distance);
     let humidity = value(part, 6, 0, 1000, p.humidity, saturation);

@@ -6,7 +6,7 @@ use Rattle.refusal.specs.declared.Judged.the-variants.{Accepted, Refused}
 use Rattle.bag.specs.declared.BagSheet.{BagSheet}
 use Rattle.bag.specs.Sheet.{judgeSheet}
 use Rattle.part.proofs.Read.{Took}
-use Rattle.emission.specs.declared.Readings.{Readings}
+use Rattle.emission.specs.declared.TestSides.{TestSides}
 use Rattle.emission.specs.declared.Read.{Read}
 use Rattle.emission.specs.declared.Read.the-variants.{Units}
 use Rattle.emission.specs.declared.Read.the-variants as reads
@@ -20,14 +20,14 @@ handed : {r : TestResult} (j : Judged) (next : Answer) → handUp j next ≡ Res
 handed Accepted next e = (refl, e)
 handed (Refused refusal) next e = absurd (false≢true (cc))
 
-took-test : {r : TestResult} (x : Read) (next : Readings → Answer) → onRead x next ≡ Result r → Took Units x next (Result r)
+took-test : {r : TestResult} (x : Read) (next : TestSides → Answer) → onRead x next ≡ Result r → Took Units x next (Result r)
 took-test (Units readings) next e = record { held = readings; taken = refl; then = e }
 took-test (reads.Refused refusal) next e = absurd (false≢true (cc))
 
 -- the sheet was accepted, the readings were read, and dilution and humidity accepted
 pub record AcceptedResult (s : BagSheet) (r : TestResult) : Type 0 where
   pub sheet : judgeSheet s ≡ Accepted
-  pub readings : Readings
+  pub readings : TestSides
   pub read : readIn s ≡ Units readings
   pub late : judgeLate s readings ≡ Accepted
   pub result : r ≡ resultOf s (partsIn s readings)

@@ -20,14 +20,14 @@ use Rattle.stage.specs.Part.{gOf, qOf, noxMassOf}
 use Rattle.stage.specs.Test.{weightsOf}
 use Rattle.part.specs.declared.Sides.{Sides}
 use Rattle.part.specs.Part.{endsAt, gIn, gasMass, massIn, ratesOf, partOf}
-use Rattle.part.specs.Room.{PartRanges}
+use Rattle.part.specs.Ranges.{PartRanges}
 use Rattle.part.proofs.Each.{each-at}
 use Rattle.part.proofs.Sizes.{volume-ranges, kh-ranges}
-use Rattle.emission.specs.declared.Readings.{Readings}
+use Rattle.emission.specs.declared.TestSides.{TestSides}
 use Rattle.emission.specs.declared.TestResult.{TestResult}
 use Rattle.emission.specs.declared.Answer.the-variants.{Result}
 use Rattle.emission.specs.Test.{nothing, noPart, thirdPart, partsIn, weightedGases, resultOf, testAnswer}
-use Rattle.emission.specs.Room.{PartsRanges}
+use Rattle.emission.specs.Ranges.{PartsRanges}
 use Rattle.emission.proofs.Ranges.{parts-ranges}
 use Rattle.claims.specs.Exact.{PartUnits, TestUnits, TestConverted, count, inBag, inAir, exactG, exactConcentration, exactGasVolume, exactDryMass}
 use Rattle.claims.specs.Exact.{exactKh, exactMass, exactRate, exactThird, percentOf, exactWeighted, exactFuel}
@@ -74,18 +74,18 @@ module _ {t : Triple} {p : Part} {sides : Sides} {u : PartUnits} (read : ReadAs 
   part-in = record { volume = volume-holds p (volume-ranges r); mass = mass-in; rate = rate-in }
 
 -- ---- the test
-module _ {s : BagSheet} {readings : Readings} {u : TestUnits} (t : Tested s) (read : TestReadAs s readings u) (r : PartsRanges s readings) where
+module _ {s : BagSheet} {readings : TestSides} {u : TestUnits} (t : Tested s) (read : TestReadAs s readings u) (r : PartsRanges s readings) where
   first-in : PartContained (s .triple) (s .first) (u .first) (partsIn s readings .first)
   unfolding partsIn
-  first-in = part-in (read .first) (r .first) (t .d .0)
+  first-in = part-in (read .first) (r .first) (t .triple .d .0)
 
   second-in : PartContained (s .triple) (s .second) (u .second) (partsIn s readings .second)
   unfolding partsIn
-  second-in = part-in (read .second) (r .second) (t .d .0)
+  second-in = part-in (read .second) (r .second) (t .triple .d .0)
 
   third-in : s .class ≡ 3 → PartContained (s .triple) (s .third) (u .third) (partsIn s readings .third)
   unfolding partsIn thirdPart
-  third-in three = rw (eq-eqb (s .class) 3 three) (part-in (read .third three) (r .third three) (t .d .0))
+  third-in three = rw (eq-eqb (s .class) 3 three) (part-in (read .third three) (r .third three) (t .triple .d .0))
 
   no-third : (s .class ≡ 3 → ⊥) → partsIn s readings .third ≡ noPart
   unfolding partsIn thirdPart
@@ -99,7 +99,7 @@ module _ {s : BagSheet} {readings : Readings} {u : TestUnits} (t : Tested s) (re
       go : (b : Bool) → (b ≡ true → s .class ≡ 3) →
           Between (endsAt gas (cond b (partOf (s .triple) (s .third) (readings .third)) noPart .rate))
           (cond b (exactRate gas (s .triple) (s .third) (u .third)) (count 0))
-      go true f = rate-in (read .third (f refl)) (r .third (f refl)) (t .d .0) gas
+      go true f = rate-in (read .third (f refl)) (r .third (f refl)) (t .triple .d .0) gas
       go false f = rw (each-at gas) (exactly-holds (pos 0))
 
   weighted-in : (gas : Gas) → Between (endsAt gas (resultOf s (partsIn s readings) .weighted)) (exactWeighted gas s u)
@@ -113,7 +113,7 @@ module _ {s : BagSheet} {readings : Readings} {u : TestUnits} (t : Tested s) (re
   unfolding resultOf exactFuel
   fuel-in =
       let f = s .fuel in
-      fuel-holds (f .k) (f .hc) (f .co) (f .co2) (f .density) (omega (arith, t .fuelDensity .0)) (weighted-in HC) (weighted-in CO) (weighted-in CO2)
+      fuel-holds (f .k) (f .hc) (f .co) (f .co2) (f .density) (omega (arith, t .fuel .density .0)) (weighted-in HC) (weighted-in CO) (weighted-in CO2)
 
   result-in : Contained s u (resultOf s (partsIn s readings))
   unfolding resultOf

@@ -9,6 +9,7 @@ use Rattle.runs.specs.Runs.{takes, runJudged, runNext, rowAfter, nextAfter, smo
 use Rattle.claims.specs.Figures.{All, figures}
 
 pub known : All figures
-unfolding volumeOf gOf concentrationOf gasVolumeOf massOf khOf rateOf weightedOf fuelOf verdictOf combinationOf sumOf differenceOf scaledBy hullOf productOf dividedBy divDown divUp exactly smoothed smooth rowAfter runJudged nextAfter runNext takes
+unfolding volumeOf gOf concentrationOf gasVolumeOf massOf khOf rateOf weightedOf fuelOf verdictOf combinationOf sumOf differenceOf scaledBy hullOf
+    productOf dividedBy divDown divUp exactly smoothed smooth rowAfter runJudged nextAfter runNext takes
 known =
     (refl, (refl, (refl, (refl, (refl, (refl, (refl, (refl, (refl, (refl, (refl, (refl, (refl, (refl, (refl, (refl, (refl, (refl, (refl, tt)))))))))))))))))))

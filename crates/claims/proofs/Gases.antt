@@ -12,11 +12,13 @@ use Rattle.part.specs.Part.{endsAt, gIn, volumeIn, gasMass, massesOf, corrected
 use Rattle.part.proofs.Each.{each-at}
 
 abbrev pub dryMassIn : Gas → Triple → Part → Sides → Ends
-dryMassIn gas t p sides = gasMass (volumeIn p) (endsAt gas (sides .bag)) (endsAt gas (sides .air)) (gIn t (sides .bag)) (qOf (t .d)) (densityAt gas (p .density))
+dryMassIn gas t p sides =
+    gasMass (volumeIn p) (endsAt gas (sides .bag)) (endsAt gas (sides .air)) (gIn t (sides .bag)) (qOf (t .d)) (densityAt gas (p .density))
 
 abbrev pub khIn : Part → Ends
 khIn p = khOf (p .humidity) (p .saturation) (p .barometer)
 
-pub mass-at : (gas : Gas) (t : Triple) (p : Part) (sides : Sides) → endsAt gas (massIn t p sides) ≡ cond (isNOx gas) (noxMassOf (dryMassIn gas t p sides) (khIn p)) (dryMassIn gas t p sides)
+pub mass-at : (gas : Gas) (t : Triple) (p : Part) (sides : Sides) →
+    endsAt gas (massIn t p sides) ≡ cond (isNOx gas) (noxMassOf (dryMassIn gas t p sides) (khIn p)) (dryMassIn gas t p sides)
 unfolding massIn massesOf correctedFor
 mass-at gas t p sides = rw (each-at gas, each-at gas)

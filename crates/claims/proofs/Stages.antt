@@ -35,7 +35,8 @@ natural (negsuc n) h = absurd (h .le)
 -- s the pressure, k the temperature above absolute zero in 0.05 K
 volume-at :
     (pump revolutions s k : ℕ) (d : ℤ) (x y : Fraction) → 0 < k → d ≡ pos (101325 * k) → x ≡ count s → y ≡ decimal (pos (50 * k)) 1000 →
-    Between (dividedBy (exactly (pos (pump * revolutions * s * 5863))) d) (decimal (pos 29315) 100 *ᶠ count pump *ᶠ count revolutions *ᶠ x /ᶠ (count 101325 *ᶠ y))
+    Between (dividedBy (exactly (pos (pump * revolutions * s * 5863))) d)
+    (decimal (pos 29315) 100 *ᶠ count pump *ᶠ count revolutions *ᶠ x /ᶠ (count 101325 *ᶠ y))
 volume-at pump revolutions s k d x y h e f g =
     rw (e, f, g) (same-value (divided-holds (exactly-holds (pos (pump * revolutions * s * 5863))) (pos (101325 * k)) (omega zs)) _ (omega zs) (omega zs))
 
@@ -55,18 +56,22 @@ volume-holds p r =
 
 -- ---- three numbers, each with its own factor
 pub combination-holds :
-    {a b c : Ends} {x y z : Fraction} (j k l : ℕ) → Between a x → Between b y → Between c z → Between (combinationOf j a k b l c) (count j *ᶠ x +ᶠ count k *ᶠ y +ᶠ count l *ᶠ z)
+    {a b c : Ends} {x y z : Fraction} (j k l : ℕ) → Between a x → Between b y → Between c z →
+    Between (combinationOf j a k b l c) (count j *ᶠ x +ᶠ count k *ᶠ y +ᶠ count l *ᶠ z)
 unfolding combinationOf
 combination-holds j k l a b c = sum-holds (sum-holds (scaled-holds a (pos j)) (scaled-holds b (pos k))) (scaled-holds c (pos l))
 
 -- ---- concentration and mass
 pub concentration-holds :
-    {bag air g : Ends} {x y z : Fraction} (q : ℕ) → 0 < q → Between bag x → Between air y → Between g z → Between (concentrationOf bag air g q) (count 16 *ᶠ (count q *ᶠ x -ᶠ y *ᶠ (count q -ᶠ z)) /ᶠ count q)
+    {bag air g : Ends} {x y z : Fraction} (q : ℕ) → 0 < q → Between bag x → Between air y → Between g z →
+    Between (concentrationOf bag air g q) (count 16 *ᶠ (count q *ᶠ x -ᶠ y *ᶠ (count q -ᶠ z)) /ᶠ count q)
 unfolding concentrationOf
 concentration-holds q h bag air g =
-    divided-holds (scaled-holds (difference-holds (scaled-holds bag (pos q)) (product-holds air (difference-holds (exactly-holds (pos q)) g))) (pos 16)) (pos q) (omega zs)
+    let from-air = product-holds air (difference-holds (exactly-holds (pos q)) g) in
+    divided-holds (scaled-holds (difference-holds (scaled-holds bag (pos q)) from-air) (pos 16)) (pos q) (omega zs)
 
-pub gas-volume-holds : {volume concentration : Ends} {v c : Fraction} → Between volume v → Between concentration c → Between (gasVolumeOf volume concentration) (v *ᶠ c /ᶠ count 4096000)
+pub gas-volume-holds : {volume concentration : Ends} {v c : Fraction} → Between volume v → Between concentration c →
+    Between (gasVolumeOf volume concentration) (v *ᶠ c /ᶠ count 4096000)
 unfolding gasVolumeOf
 gas-volume-holds v c = divided-holds (product-holds v c) (pos 4096000) (omega zs)
 
@@ -75,7 +80,8 @@ unfolding massOf
 mass-holds density v = divided-holds (scaled-holds v (pos density)) (pos 1000000) (omega zs)
 
 -- ---- humidity: v the vapour's pressure, b the dry air's, in mPa
-h-value : (p : Part) → KhRanges (p .humidity) (p .saturation) (p .barometer) → exactH p ≡ ratio (6211000 * vapourOf (p .humidity) (p .saturation)) (10000 * dryOf (p .humidity) (p .saturation) (p .barometer))
+h-value : (p : Part) → KhRanges (p .humidity) (p .saturation) (p .barometer) →
+    exactH p ≡ ratio (6211000 * vapourOf (p .humidity) (p .saturation)) (10000 * dryOf (p .humidity) (p .saturation) (p .barometer))
 unfolding exactH
 h-value p r =
     let v = p .saturation * p .humidity in
@@ -84,17 +90,22 @@ h-value p r =
     omega (zs, r .ranges .low, sub-parts (pos (1000 * p .barometer)) (pos (1 * (v * 1)))) in
     same-parts (omega zs) (ap (λ (z : ℤ). pos 10000 *ℤ z) dry)
 
-kh-divisor : (v b : ℕ) → 20434190 * v ≤ 1352030 * b → count 1 -ᶠ decimal (pos 329) 10000 *ᶠ (ratio (6211000 * v) (10000 * b) -ᶠ decimal (pos 107) 10) ≡ ratio (1000 * (1352030 * b - 20434190 * v)) (1000000000 * b)
+kh-divisor : (v b : ℕ) → 20434190 * v ≤ 1352030 * b →
+    count 1 -ᶠ decimal (pos 329) 10000 *ᶠ (ratio (6211000 * v) (10000 * b) -ᶠ decimal (pos 107) 10)
+    ≡ ratio (1000 * (1352030 * b - 20434190 * v)) (1000000000 * b)
 kh-divisor v b h =
     let a = pos (10 * (6211000 * v)) in
     let c = pos (10000 * b * 107) in
     let d = pos (10000 * (10 * (10000 * b)) * 1) in
-    same-parts (omega (zs, sub-parts a c, mul-parts (pos 329) (a -ℤ c), mul-parts (pos 1) (pos 329 *ℤ (a -ℤ c)), sub-parts d (pos 1 *ℤ (pos 329 *ℤ (a -ℤ c))))) (omega zs)
+    let e = pos 329 *ℤ (a -ℤ c) in
+    same-parts (omega (zs, sub-parts a c, mul-parts (pos 329) (a -ℤ c), mul-parts (pos 1) e, sub-parts d (pos 1 *ℤ e))) (omega zs)
 
-kh-at : (b n : ℕ) (x : Fraction) → 0 < b → 0 < n → x ≡ ratio (1000 * n) (1000000000 * b) → Between (dividedBy (exactly (pos (65536000000 * b))) (pos n)) (count 65536 *ᶠ (count 1 /ᶠ x))
+kh-at : (b n : ℕ) (x : Fraction) → 0 < b → 0 < n → x ≡ ratio (1000 * n) (1000000000 * b) →
+    Between (dividedBy (exactly (pos (65536000000 * b))) (pos n)) (count 65536 *ᶠ (count 1 /ᶠ x))
 kh-at b n x h k e = rw e (same-value (divided-holds (exactly-holds (pos (65536000000 * b))) (pos n) (omega zs)) _ (omega zs) (omega zs))
 
-pub kh-holds : (p : Part) → KhRanges (p .humidity) (p .saturation) (p .barometer) → Between (khOf (p .humidity) (p .saturation) (p .barometer)) (count 65536 *ᶠ exactKh p)
+pub kh-holds : (p : Part) → KhRanges (p .humidity) (p .saturation) (p .barometer) →
+    Between (khOf (p .humidity) (p .saturation) (p .barometer)) (count 65536 *ᶠ exactKh p)
 unfolding khOf exactKh
 kh-holds p r =
     let v = vapourOf (p .humidity) (p .saturation) in
@@ -114,7 +125,8 @@ nox-mass-holds {m = m} k h i =
     (simp (mul-one, one-mul, products))
 
 -- ---- rate
-pub rate-holds : {mass : Ends} {m : Fraction} (distance : ℕ) → 0 < distance → Between mass m → Between (rateOf mass distance) (count 1000 *ᶠ m /ᶠ count distance)
+pub rate-holds : {mass : Ends} {m : Fraction} (distance : ℕ) → 0 < distance → Between mass m →
+    Between (rateOf mass distance) (count 1000 *ᶠ m /ᶠ count distance)
 unfolding rateOf
 rate-holds distance h m = divided-holds (scaled-holds m (pos 1000)) (pos distance) (omega zs)
 

@@ -4,8 +4,8 @@ use Prim.Native.Nat.{ℕ}
 use Rattle.arith.specs.declared.Ends.{Ends}
 use Rattle.arith.specs.Stages.{exactly}
 use Rattle.reading.specs.declared.Message.{Message}
-use Rattle.reading.specs.declared.Reading.{Reading}
-use Rattle.reading.specs.declared.Reading.the-variants.{Units}
+use Rattle.reading.specs.declared.Worth.{Worth}
+use Rattle.reading.specs.declared.Worth.the-variants.{Units}
 use Rattle.reading.specs.Units.{unitsOf}
 use Rattle.reading.specs.Gas.{Gas, messageAt}
 use Rattle.reading.proofs.Usable.{usable}
@@ -16,7 +16,7 @@ use Rattle.part.specs.declared.PartRead.the-variants as partRead
 use Rattle.part.specs.Part.{endsAt}
 use Rattle.part.specs.Read.{readPart}
 use Rattle.part.proofs.Read.{units-held}
-use Rattle.emission.specs.declared.Readings.{Readings}
+use Rattle.emission.specs.declared.TestSides.{TestSides}
 use Rattle.emission.specs.declared.Read.the-variants as read
 use Rattle.emission.specs.declared.TestResult.{TestResult}
 use Rattle.emission.specs.declared.Answer.the-variants.{Result}
@@ -30,7 +30,7 @@ pub record ReadAs (sides : Sides) (u : PartUnits) : Type 0 where
   pub bag : (gas : Gas) → endsAt gas (sides .bag) ≡ exactly (u .bag gas)
   pub air : (gas : Gas) → endsAt gas (sides .air) ≡ exactly (u .air gas)
 
-same-units : {r : Reading} {a b : Ends} → r ≡ Units a → r ≡ Units b → a ≡ b
+same-units : {w : Worth} {a b : Ends} → w ≡ Units a → w ≡ Units b → a ≡ b
 same-units p q = cc
 
 read-as : (part : ℕ) (p : Part) {sides : Sides} {u : PartUnits} → readPart part p ≡ partRead.Units sides → Converted p u → ReadAs sides u
@@ -39,12 +39,12 @@ read-as part p {sides} read c =
     record { bag = λ gas. same-units (held gas .bag) (c .bag gas); air = λ gas. same-units (held gas .air) (c .air gas) }
 
 -- of the parts that the class has
-pub record TestReadAs (s : BagSheet) (r : Readings) (u : TestUnits) : Type 0 where
+pub record TestReadAs (s : BagSheet) (r : TestSides) (u : TestUnits) : Type 0 where
   pub first : ReadAs (r .first) (u .first)
   pub second : ReadAs (r .second) (u .second)
   pub third : s .class ≡ 3 → ReadAs (r .third) (u .third)
 
-pub test-read-as : {s : BagSheet} {r : Readings} {u : TestUnits} → readIn s ≡ read.Units r → TestConverted s u → TestReadAs s r u
+pub test-read-as : {s : BagSheet} {r : TestSides} {u : TestUnits} → readIn s ≡ read.Units r → TestConverted s u → TestReadAs s r u
 test-read-as {s} e c =
     let parts = read-parts e in
     record {

@@ -15,7 +15,7 @@ use Rattle.bag.specs.declared.BagSheet.{BagSheet}
 use Rattle.bag.specs.Sheet.{limitAt}
 use Rattle.stage.specs.declared.Verdict.the-variants.{Pass, Fail, Undecided}
 use Rattle.stage.specs.Test.{verdictOf}
-use Rattle.emission.specs.declared.Readings.{Readings}
+use Rattle.emission.specs.declared.TestSides.{TestSides}
 use Rattle.emission.specs.declared.TestResult.{TestResult}
 use Rattle.emission.specs.declared.Answer.the-variants.{Result}
 use Rattle.emission.specs.Test.{partsIn, verdictsOf, resultOf, testAnswer}
@@ -58,7 +58,7 @@ module _ {e : Ends} {q : Fraction} (h : Between e q) (limit : ℕ) where
           }
 
 -- the verdicts of a result are those of its weighted ends
-verdicts-in : (s : BagSheet) (r : TestResult) (readings : Readings) →
+verdicts-in : (s : BagSheet) (r : TestResult) (readings : TestSides) →
     r ≡ resultOf s (partsIn s readings) → r .verdicts ≡ verdictsOf (r .weighted) (s .limits)
 unfolding resultOf
 verdicts-in s r readings e = rw e

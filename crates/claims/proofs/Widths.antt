@@ -20,6 +20,7 @@ use Rattle.reading.specs.Gas.{Gas, HC, CO, CO2, isNOx}
 use Rattle.bag.specs.declared.Part.{Part}
 use Rattle.bag.specs.declared.Triple.{Triple}
 use Rattle.bag.specs.declared.BagSheet.{BagSheet}
+use Rattle.bag.specs.Fields.{densityRange}
 use Rattle.bag.specs.Sheet.{densityAt}
 use Rattle.bag.specs.Sound.{Tested}
 use Rattle.bag.proofs.Sound.{accepted-sound}
@@ -30,15 +31,15 @@ use Rattle.stage.specs.Test.{weightsOf, weightedOf}
 use Rattle.stage.specs.Ranges.{largestConcentration}
 use Rattle.stage.proofs.Sizes.{kelvin-least, vapour-most, divisor-least, kh-size, weights-whole}
 use Rattle.part.specs.Part.{endsAt, gIn, volumeIn, gasMass, massIn, ratesOf, partOf}
-use Rattle.part.specs.Room.{PartRanges}
+use Rattle.part.specs.Ranges.{PartRanges}
 use Rattle.part.specs.declared.Sides.{Sides}
 use Rattle.part.proofs.Each.{each-at}
-use Rattle.emission.specs.declared.Readings.{Readings}
-use Rattle.part.proofs.Sizes.{volume-ranges, masses-ranges, concentration-sizes, kh-ranges}
+use Rattle.emission.specs.declared.TestSides.{TestSides}
+use Rattle.part.proofs.Sizes.{volume-ranges, concentration-sizes, kh-ranges}
 use Rattle.emission.specs.declared.TestResult.{TestResult}
 use Rattle.emission.specs.declared.Answer.the-variants.{Result}
 use Rattle.emission.specs.Test.{nothing, noPart, thirdPart, partsIn, weightedGases, resultOf, testAnswer}
-use Rattle.emission.specs.Room.{PartsRanges}
+use Rattle.emission.specs.Ranges.{PartsRanges}
 use Rattle.emission.proofs.Ranges.{parts-ranges}
 use Rattle.claims.specs.Exact.{PartUnits, TestUnits, TestConverted}
 use Rattle.claims.specs.Statements.{concentrationIn, Ordinary, OrdinaryTest, widthOf, provenWidth}
@@ -82,7 +83,8 @@ gas-volume-narrow :
 unfolding gasVolumeOf
 gas-volume-narrow c w room sv sc v k = divided-narrow 4096000 (omega arith) (wider-narrow (omega arith) (product-narrow sv sc v k))
 
-mass-narrow : {gas : Ends} (density w v : ℕ) → density ≤ 2100000 → 2100000 * w ≤ 1000000 * v → Narrow w gas → Narrow (suc v) (massOf gas density)
+mass-narrow : {gas : Ends} (density w v : ℕ) → density ≤ densityRange .most → densityRange .most * w ≤ 1000000 * v →
+    Narrow w gas → Narrow (suc v) (massOf gas density)
 unfolding massOf
 mass-narrow density w v h room n = divided-narrow 1000000 (omega arith) (wider-narrow room (scaled-narrow (pos density) h n))
 
@@ -148,7 +150,7 @@ module _ {t : Triple} {p : Part} {sides : Sides} {u : PartUnits} (read : ReadAs 
   unfolding gasMass
   dry-mass gas o =
       mass-narrow (densityAt gas (p .density)) 116 244 (r .ranged .density gas .1) (omega arith)
-      (gas-volume-narrow largestConcentration 115 (omega arith) (volume-sized (o .volume)) (concentration-sizes (masses-ranges r) gas)
+      (gas-volume-narrow largestConcentration 115 (omega arith) (volume-sized (o .volume)) (concentration-sizes r gas)
       volume-narrow (concentration-narrow-in gas))
 
   kh-narrow : Narrow 1 (khOf (p .humidity) (p .saturation) (p .barometer))
@@ -188,14 +190,14 @@ module _ {t : Triple} {p : Part} {sides : Sides} {u : PartUnits} (read : ReadAs 
   rate-in gas o = rw (each-at gas) (rate-narrow (p .distance) (o .distance) (mass-in gas o))
 
 -- ---- the test
-module _ {s : BagSheet} {readings : Readings} {u : TestUnits} (t : Tested s) (read : TestReadAs s readings u) (r : PartsRanges s readings) where
+module _ {s : BagSheet} {readings : TestSides} {u : TestUnits} (t : Tested s) (read : TestReadAs s readings u) (r : PartsRanges s readings) where
   third-in : (gas : Gas) → OrdinaryTest gas s u → Narrow (suc (massWidth gas)) (endsAt gas (thirdPart s (readings .third) .rate))
   unfolding thirdPart nothing
   third-in gas o = go (eqb (s .class) 3) (eqb-true (s .class) 3)
     where
       go : (b : Bool) → (b ≡ true → s .class ≡ 3) →
           Narrow (suc (massWidth gas)) (endsAt gas (cond b (partOf (s .triple) (s .third) (readings .third)) noPart .rate))
-      go true f = rate-in (read .third (f refl)) (r .third (f refl)) (t .d .0) gas (o .third (f refl))
+      go true f = rate-in (read .third (f refl)) (r .third (f refl)) (t .triple .d .0) gas (o .third (f refl))
       go false f = rw (each-at gas) (wider-narrow (omega arith) (exactly-narrow (pos 0)))
 
   weighted-in : (gas : Gas) → OrdinaryTest gas s u → Narrow (suc (suc (massWidth gas))) (endsAt gas (resultOf s (partsIn s readings) .weighted))
@@ -203,7 +205,8 @@ module _ {s : BagSheet} {readings : Readings} {u : TestUnits} (t : Tested s) (re
   weighted-in gas o =
       rw (each-at gas)
       (weighted-narrow (weightsOf (s .class)) (weights-whole (s .class) (t .class .0) (t .class .1))
-      (rate-in (read .first) (r .first) (t .d .0) gas (o .first)) (rate-in (read .second) (r .second) (t .d .0) gas (o .second)) (third-in gas o))
+      (rate-in (read .first) (r .first) (t .triple .d .0) gas (o .first)) (rate-in (read .second) (r .second) (t .triple .d .0) gas (o .second))
+      (third-in gas o))
 
 -- each of the two stages after the mass adds one
 two-more : (b : Bool) → suc (suc (cond b 1941 245)) ≤ cond b 1943 247

@@ -2,7 +2,7 @@
 use mathlib.Core.Path.{_≡_, refl}
 use mathlib.Core.Bool.{Bool, true, false, cond}
 use mathlib.Core.List.{[], _∷_}
-use Prim.Native.Nat.{ℕ, _*_, _≤_}
+use Prim.Native.Nat.{ℕ, _+_, _*_, _≤_}
 use native.Mathlib.Omega.{arith}
 use lib.Dec.{eqb}
 use borrow.Author.Tests.{eqb-true}
@@ -17,33 +17,30 @@ use Rattle.bag.specs.declared.Triple.{Triple}
 use Rattle.bag.specs.Sheet.{ofThird}
 use Rattle.bag.specs.Sound.{Tested, Ranged, Sound}
 use Rattle.bag.proofs.Sound.{apart, third-holds}
-use Rattle.stage.specs.declared.Weights.{Weights}
-use Rattle.stage.specs.Ranges.{WeightedRanges, largestMass, largestNoxMass, largestRate}
-use Rattle.stage.proofs.Sizes.{rate-size, weighted-size}
-use Rattle.part.specs.declared.Gases.{Gases}
+use Rattle.stage.specs.Test.{weightsOf}
+use Rattle.stage.specs.Ranges.{largestMass, largestNoxMass, largestRate}
+use Rattle.stage.proofs.Sizes.{rate-size, weights-whole, weighted-size}
 use Rattle.part.specs.declared.Sides.{Sides}
-use Rattle.part.specs.Part.{endsAt, diluted, dryEnough, ratesOf, partOf}
-use Rattle.part.specs.Room.{TripleRanges, PartRanges}
+use Rattle.part.specs.Part.{diluted, dryEnough, ratesOf, partOf}
+use Rattle.part.specs.Ranges.{PartRanges}
 use Rattle.part.specs.declared.PartRead.{PartRead}
 use Rattle.part.specs.declared.PartRead.the-variants as PartRead
 use Rattle.part.specs.Read.{readPart}
 use Rattle.part.proofs.Each.{each-at}
 use Rattle.part.proofs.Sizes.{bag-sizes, air-sizes, mass-in-sizes}
-use Rattle.emission.specs.declared.Readings.{Readings}
-use Rattle.emission.specs.Test.{readIn, dilution, humidity, lateChecks, judgeLate, nothing, noPart, thirdPart, partsIn, weightedGases}
+use Rattle.emission.specs.declared.TestSides.{TestSides}
+use Rattle.emission.specs.declared.Parts.{Parts}
+use Rattle.emission.specs.Test.{readIn, dilution, humidity, lateChecks, judgeLate, nothing, noPart, thirdPart, partsIn, weightedGases, weightedIn}
 use Rattle.emission.specs.declared.Read.the-variants.{Units}
 use Rattle.emission.proofs.Taken.{read-parts, third-read, third-bag-sizes}
-use Rattle.emission.specs.Room.{LateRanges, PartsRanges, RateSizes, WeighRanges, ResultRanges}
+use Rattle.emission.specs.Ranges.{LateRanges, PartsRanges, RateSizes, WeighRanges, ResultRanges}
 
-module _ {s : BagSheet} {r : Readings} (h : Sound s) (e : readIn s ≡ Units r) where
-  triple-ranges : TripleRanges (s .triple)
-  triple-ranges = let t = h .tested in record { d-most = t .d .1; wc-most = t .wc; wh-most = t .wh }
-
+module _ {s : BagSheet} {r : TestSides} (h : Sound s) (e : readIn s ≡ Units r) where
   pub late-ranges : LateRanges s r
   late-ranges =
       let parts = read-parts e in
       record {
-        triple-ranges = triple-ranges;
+        triple-ranged = h .tested .triple;
         first-bag = bag-sizes 1 (s .first) (parts .first);
         second-bag = bag-sizes 2 (s .second) (parts .second);
         third-bag = third-bag-sizes (s .class) (s .third) (parts .third);
@@ -52,25 +49,34 @@ module _ {s : BagSheet} {r : Readings} (h : Sound s) (e : readIn s ≡ Units r) 
         third = h .third;
       }
 
-  part-ranges : (part : ℕ) (p : Part) {sides : Sides} → Ranged p → readPart part p ≡ PartRead.Units sides → diluted (s .triple) (sides .bag) ≡ true → dryEnough p ≡ true → PartRanges (s .triple) p sides
+  part-ranges : (part : ℕ) (p : Part) {sides : Sides} → Ranged p → readPart part p ≡ PartRead.Units sides →
+      diluted (s .triple) (sides .bag) ≡ true → dryEnough p ≡ true → PartRanges (s .triple) p sides
   part-ranges part p ranged read rich humid =
-      record { triple-ranges = triple-ranges; ranged = ranged; bag-sizes = bag-sizes part p read; air-sizes = air-sizes part p read; dilution = rich; humidity = humid }
+      record {
+        triple-ranged = h .tested .triple;
+        ranged = ranged;
+        bag-sizes = bag-sizes part p read;
+        air-sizes = air-sizes part p read;
+        dilution = rich;
+        humidity = humid;
+      }
 
   -- past refusals 13 and 14
   pub parts-ranges : judgeLate s r ≡ Accepted → PartsRanges s r
   unfolding lateChecks
   parts-ranges late =
       let parts = read-parts e in
-      let rich3 = ofThird (s .class) (dilution 3 (diluted (s .triple) (r .third .bag)) ∷ []) in
-      let humid3 = ofThird (s .class) (humidity 3 (dryEnough (s .third)) ∷ []) in
-      let all = judged-holds (lateChecks s r) late in
-      let later = apart rich3 (humidity 1 (dryEnough (s .first)) ∷ humidity 2 (dryEnough (s .second)) ∷ humid3) (all .1 .1) in
+      let third-rich = ofThird (s .class) (dilution 3 (diluted (s .triple) (r .third .bag)) ∷ []) in
+      let third-humid = ofThird (s .class) (humidity 3 (dryEnough (s .third)) ∷ []) in
+      let all-humid = humidity 1 (dryEnough (s .first)) ∷ humidity 2 (dryEnough (s .second)) ∷ third-humid in
+      let (rich-1, (rich-2, later)) = judged-holds (lateChecks s r) late in
+      let (rich-3, (humid-1, (humid-2, humid-3))) = apart third-rich all-humid later in
       record {
-        first = part-ranges 1 (s .first) (h .first) (parts .first) (all .0) (later .1 .0);
-        second = part-ranges 2 (s .second) (h .second) (parts .second) (all .1 .0) (later .1 .1 .0);
+        first = part-ranges 1 (s .first) (h .first) (parts .first) rich-1 humid-1;
+        second = part-ranges 2 (s .second) (h .second) (parts .second) rich-2 humid-2;
         third =
             λ c. part-ranges 3 (s .third) (h .third c) (third-read (s .class) (s .third) (parts .third) c)
-            (third-holds (s .class) _ (later .0) c .0) (third-holds (s .class) _ (later .1 .1 .1) c .0);
+            (third-holds (s .class) _ rich-3 c .0) (third-holds (s .class) _ humid-3 c .0);
       }
 
 -- ---- rates
@@ -90,7 +96,7 @@ third-sizes s sides h = go (eqb (s .class) 3) (eqb-true (s .class) 3)
     go true f = rate-sizes (h (f refl))
     go false f = no-rates
 
-pub result-ranges : {s : BagSheet} {r : Readings} → Tested s → PartsRanges s r → ResultRanges s (partsIn s r)
+pub result-ranges : {s : BagSheet} {r : TestSides} → Tested s → PartsRanges s r → ResultRanges s (partsIn s r)
 unfolding partsIn
 result-ranges {s} {r} t p =
     record {
@@ -100,22 +106,26 @@ result-ranges {s} {r} t p =
       third-sizes = third-sizes s (r .third) (p .third);
     }
 
--- ---- the weighted result
-pub weighted-sizes : {w : Weights} {first second third : Gases} → WeighRanges w first second third → RateSizes (weightedGases w first second third)
-unfolding weightedGases
-weighted-sizes {w} r gas = rw (each-at gas) (weighted-size w (r .whole) (r .first-sizes gas) (r .second-sizes gas) (r .third-sizes gas))
+-- ---- the weighted result. NOx's rates are the largest
+weighed : (b : Bool) → 10 * cond b largestNoxMass largestMass ≤ largestRate
+weighed true = omega arith
+weighed false = omega arith
 
--- what weighing asks of each gas: NOx's rates are the largest
-pub weigh-ranges : {w : Weights} {first second third : Gases} → WeighRanges w first second third → (gas : Gas) → WeightedRanges w (endsAt gas first) (endsAt gas second) (endsAt gas third)
-weigh-ranges r gas =
-    let m = most (isNOx gas) in
-    record {
-      whole = r .whole;
-      first-size = wider-size m (r .first-sizes gas);
-      second-size = wider-size m (r .second-sizes gas);
-      third-size = wider-size m (r .third-sizes gas);
-    }
-  where
-    most : (b : Bool) → 10 * cond b largestNoxMass largestMass ≤ largestRate
-    most true = omega arith
-    most false = omega arith
+module _ {s : BagSheet} {parts : Parts} (r : ResultRanges s parts) where
+  whole : weightsOf (s .class) .first + weightsOf (s .class) .second + weightsOf (s .class) .third ≡ 100
+  whole = weights-whole (s .class) (r .tested .class .0) (r .tested .class .1)
+
+  pub weigh-ranges : WeighRanges (weightsOf (s .class)) (parts .first .rate) (parts .second .rate) (parts .third .rate)
+  weigh-ranges gas =
+      let most = weighed (isNOx gas) in
+      record {
+        whole = whole;
+        first-size = wider-size most (r .first-sizes gas);
+        second-size = wider-size most (r .second-sizes gas);
+        third-size = wider-size most (r .third-sizes gas);
+      }
+
+  pub weighted-sizes : RateSizes (weightedIn s parts)
+  unfolding weightedGases
+  weighted-sizes gas =
+      rw (each-at gas) (weighted-size (weightsOf (s .class)) whole (r .first-sizes gas) (r .second-sizes gas) (r .third-sizes gas))

@@ -12,25 +12,25 @@ use Rattle.part.specs.declared.Sides.{Sides}
 use Rattle.part.specs.declared.PartRead.{PartRead}
 use Rattle.part.specs.declared.PartRead.the-variants as partRead
 use Rattle.part.specs.Read.{readPart}
-use Rattle.part.specs.Room.{ReadingSizes}
+use Rattle.part.specs.Ranges.{ReadingSizes}
 use Rattle.part.proofs.Read.{Took}
 use Rattle.part.proofs.Each.{each-at}
 use Rattle.part.proofs.Sizes.{bag-sizes}
-use Rattle.emission.specs.declared.Readings.{Readings}
+use Rattle.emission.specs.declared.TestSides.{TestSides}
 use Rattle.emission.specs.declared.Read.{Read}
 use Rattle.emission.specs.declared.Read.the-variants as read
 use Rattle.emission.specs.Test.{nothing, readThird, onPart, readIn}
 
-took-part : (p : PartRead) (next : Sides → Read) {r : Readings} → onPart p next ≡ read.Units r → Took partRead.Units p next (read.Units r)
+took-part : (p : PartRead) (next : Sides → Read) {r : TestSides} → onPart p next ≡ read.Units r → Took partRead.Units p next (read.Units r)
 took-part (partRead.Units sides) next e = record { held = sides; taken = refl; then = e }
 took-part (partRead.Refused refusal) next e = absurd (false≢true (cc))
 
-pub record ReadParts (s : BagSheet) (r : Readings) : Type 0 where
+pub record ReadParts (s : BagSheet) (r : TestSides) : Type 0 where
   pub first : readPart 1 (s .first) ≡ partRead.Units (r .first)
   pub second : readPart 2 (s .second) ≡ partRead.Units (r .second)
   pub third : readThird (s .class) (s .third) ≡ partRead.Units (r .third)
 
-pub read-parts : {s : BagSheet} {r : Readings} → readIn s ≡ read.Units r → ReadParts s r
+pub read-parts : {s : BagSheet} {r : TestSides} → readIn s ≡ read.Units r → ReadParts s r
 unfolding readIn
 read-parts {s} {r} e =
     let first = took-part (readPart 1 (s .first)) _ e in

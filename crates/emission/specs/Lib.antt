@@ -1,2 +1,2 @@
 pub mod Test
-pub mod Room
+pub mod Ranges

@@ -27,7 +27,7 @@ use Rattle.part.specs.declared.PartRead.{PartRead}
 use Rattle.part.specs.declared.PartRead.the-variants as partRead
 use Rattle.part.specs.Read.{readPart, readingChecks}
 use Rattle.part.specs.Part.{endsAt, each, diluted, dryEnough, partOf}
-use Rattle.emission.specs.declared.Readings.{Readings}
+use Rattle.emission.specs.declared.TestSides.{TestSides}
 use Rattle.emission.specs.declared.Read.{Read}
 use Rattle.emission.specs.declared.Read.the-variants as read
 use Rattle.emission.specs.declared.Parts.{Parts}
@@ -69,7 +69,7 @@ dilution part holds = record { holds = holds; refusal = Dilution part }
 abbrev pub humidity : ℕ → Bool → Check
 humidity part holds = record { holds = holds; refusal = Humidity part }
 
-unfoldable pub lateChecks : BagSheet → Readings → List Check
+unfoldable pub lateChecks : BagSheet → TestSides → List Check
 lateChecks s r =
     dilution 1 (diluted (s .triple) (r .first .bag))
     ∷ dilution 2 (diluted (s .triple) (r .second .bag))
@@ -78,7 +78,7 @@ lateChecks s r =
     ∷ humidity 2 (dryEnough (s .second))
     ∷ ofThird (s .class) (humidity 3 (dryEnough (s .third)) ∷ [])))
 
-abbrev pub judgeLate : BagSheet → Readings → Judged
+abbrev pub judgeLate : BagSheet → TestSides → Judged
 judgeLate s r = judgedBy (lateChecks s r)
 
 -- ---- the parts. A third part that the class does not have is nothing
@@ -88,7 +88,7 @@ noPart = record { volume = exactly (pos 0); mass = nothing; rate = nothing }
 unfoldable pub thirdPart : BagSheet → Sides → PartResult
 thirdPart s sides = cond (eqb (s .class) 3) (partOf (s .triple) (s .third) sides) noPart
 
-unfoldable pub partsIn : BagSheet → Readings → Parts
+unfoldable pub partsIn : BagSheet → TestSides → Parts
 partsIn s r =
     record {
       first = partOf (s .triple) (s .first) (r .first);
@@ -132,12 +132,12 @@ abbrev pub handUp : Judged → Answer → Answer
 handUp Accepted next = next
 handUp (judged.Refused refusal) next = Refused refusal
 
-abbrev pub onRead : Read → (Readings → Answer) → Answer
+abbrev pub onRead : Read → (TestSides → Answer) → Answer
 onRead (read.Units readings) next = next readings
 onRead (read.Refused refusal) next = Refused refusal
 
 -- past refusal 12
-unfoldable pub readAnswer : BagSheet → Readings → Answer
+unfoldable pub readAnswer : BagSheet → TestSides → Answer
 readAnswer s r = handUp (judgeLate s r) (Result (resultOf s (partsIn s r)))
 
 unfoldable pub testAnswer : BagSheet → Answer

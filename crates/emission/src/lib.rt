@@ -18,14 +18,15 @@ ghost use mathlib.Core.List.{[], _∷_};
 ghost use Rattle.refusal.specs.declared.Refusal.the-variants.{Dilution, Humidity};
 ghost use Rattle.refusal.specs.Judging.{checked, checkedAll};
 ghost use Rattle.bag.specs.Sheet.{ofThird};
-ghost use Rattle.bag.specs.Sound.{Ranged};
+ghost use Rattle.bag.specs.Sound.{Ranged, RangedTriple, RangedFuel, RangedLimits};
 ghost use Rattle.part.specs.Part.{diluted, dryEnough};
-ghost use Rattle.part.specs.Room.{ReadingSizes, TripleRanges, PartRanges};
-ghost use Rattle.emission.specs.Test.{readThird, readIn, dilution, humidity, judgeLate, nothing, noPart, thirdPart, partsIn, weightedGases, verdictsOf, fuelIn, resultOf, testAnswer};
-ghost use Rattle.emission.specs.Room.{LateRanges, PartsRanges, RateSizes, WeighRanges, LimitRanges, FuelSheet, ResultRanges};
+ghost use Rattle.part.specs.Ranges.{ReadingSizes, PartRanges};
+ghost use Rattle.emission.specs.Test.{readThird, readIn, dilution, humidity, judgeLate, nothing, noPart, thirdPart, partsIn};
+ghost use Rattle.emission.specs.Test.{weightedGases, verdictsOf, fuelIn, resultOf, testAnswer};
+ghost use Rattle.emission.specs.Ranges.{LateRanges, PartsRanges, RateSizes, WeighRanges, ResultRanges};
 
-// The readings of a test in units.
-pub struct Readings {
+// The readings of a test: of each part, in units.
+pub struct TestSides {
     pub first: Sides,
     pub second: Sides,
     pub third: Sides,
@@ -60,7 +61,7 @@ pub enum Answer {
 
 // The readings of a test, or refusal 12.
 pub enum Read {
-    Units(Readings),
+    Units(TestSides),
     Refused(Refusal),
 }
 
@@ -92,7 +93,7 @@ fn readings_in(s: BagSheet) -> Read
         PartRead::Units(third) => third,
         PartRead::Refused(refusal) => return Read::Refused(refusal),
     };
-    Read::Units(Readings {
+    Read::Units(TestSides {
         first,
         second,
         third,
@@ -101,7 +102,7 @@ fn readings_in(s: BagSheet) -> Read
 
 // Refusal 13.
 fn dilution_check(part: u32, triple: Triple, bag: Gases, rest: Judged) -> Judged
-    requires { ⌜ (TripleRanges triple) × (ReadingSizes bag) ⌝ }
+    requires { ⌜ (RangedTriple triple) × (ReadingSizes bag) ⌝ }
     ensures { λ r. ⌜ r ≡ checked (diluted triple bag) (Dilution part) rest ⌝ }
 {
     refusal::check(
@@ -121,7 +122,7 @@ fn humidity_check(part: u32, p: Part, rest: Judged) -> Judged
 
 // Parts past the class's number are not read.
 fn third_dilution(class: u32, triple: Triple, bag: Gases, rest: Judged) -> Judged
-    requires { ⌜ (TripleRanges triple) × (ReadingSizes bag) ⌝ }
+    requires { ⌜ (RangedTriple triple) × (ReadingSizes bag) ⌝ }
     ensures { λ r. ⌜ r ≡ checkedAll (ofThird class (dilution 3 (diluted triple bag) ∷ [])) rest ⌝ }
 {
     if class == 3 {
@@ -141,7 +142,7 @@ fn third_humidity(class: u32, third: Part, rest: Judged) -> Judged
 }
 
 // Refusals 13 and 14, 13 over all parts first.
-fn judge_late(s: BagSheet, r: Readings) -> Judged
+fn judge_late(s: BagSheet, r: TestSides) -> Judged
     requires { ⌜ LateRanges s r ⌝ }
     ensures { λ j. ⌜ j ≡ judgeLate s r ⌝ }
 {
@@ -186,7 +187,7 @@ fn third_part(s: BagSheet, sides: Sides) -> PartResult
     no_part()
 }
 
-fn parts_in(s: BagSheet, r: Readings) -> Parts
+fn parts_in(s: BagSheet, r: TestSides) -> Parts
     requires { ⌜ PartsRanges s r ⌝ }
     ensures { λ p. ⌜ p ≡ partsIn s r ⌝ }
 {
@@ -210,7 +211,7 @@ fn weighted_gases(w: Weights, first: Gases, second: Gases, third: Gases) -> Gase
 }
 
 fn verdicts_of(weighted: Gases, limits: Limits) -> Verdicts
-    requires { ⌜ LimitRanges limits ⌝ }
+    requires { ⌜ RangedLimits limits ⌝ }
     ensures { λ r. ⌜ r ≡ verdictsOf weighted limits ⌝ }
 {
     Verdicts {
@@ -222,7 +223,7 @@ fn verdicts_of(weighted: Gases, limits: Limits) -> Verdicts
 }
 
 fn fuel_in(f: Fuel, weighted: Gases) -> Ends
-    requires { ⌜ (FuelSheet f) × (RateSizes weighted) ⌝ }
+    requires { ⌜ (RangedFuel f) × (RateSizes weighted) ⌝ }
     ensures { λ r. ⌜ r ≡ fuelIn f weighted ⌝ }
 {
     stage::fuel(

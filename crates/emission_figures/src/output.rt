@@ -9,7 +9,7 @@ use print::end_line;
 use print::number;
 use print::text;
 use reading::Message;
-use reading::Reading;
+use reading::Worth;
 use refusal::Refusal;
 use stage::Verdict;
 
@@ -111,10 +111,10 @@ pub fn outcome(s: BagSheet) {
 pub fn units(message: Message) {
     let reading = reading::convert(message);
     match reading {
-        Reading::Units(ends) => {
+        Worth::Units(ends) => {
             print::ends(ends);
         }
-        Reading::Unusable => {
+        Worth::Unusable => {
             text(b" unusable");
         }
     }

@@ -6,20 +6,20 @@ use Rattle.arith.specs.declared.Ends.{Ends}
 use Rattle.refusal.specs.declared.Refusal.the-variants.{Reading}
 use Rattle.refusal.specs.declared.Judged.{Judged}
 use Rattle.refusal.specs.Judging.{checked, checkedAll, judgedBy}
-use Rattle.reading.specs.declared.Reading as read
-use Rattle.reading.specs.declared.Reading.the-variants as reading
+use Rattle.reading.specs.declared.Worth.{Worth}
+use Rattle.reading.specs.declared.Worth.the-variants as worth
 use Rattle.reading.specs.Units.{unitsOf}
-use Rattle.reading.specs.Gas.{Gas, HC, CO, NOx, CO2, numberOf, messageAt}
+use Rattle.reading.specs.Gas.{Gas, HC, CO, NOx, CO2, gasNumber, messageAt}
 use Rattle.reading.proofs.Gas.{by-gas}
 use Rattle.bag.specs.declared.Part.{Part}
-use Rattle.part.specs.declared.Pair.{Pair}
+use Rattle.part.specs.declared.GasSides.{GasSides}
 use Rattle.part.specs.declared.Sides.{Sides}
 use Rattle.part.specs.declared.GasRead.{GasRead}
 use Rattle.part.specs.declared.GasRead.the-variants as gasRead
 use Rattle.part.specs.declared.PartRead.{PartRead}
 use Rattle.part.specs.declared.PartRead.the-variants as partRead
 use Rattle.part.specs.Part.{endsAt, each}
-use Rattle.part.specs.Read.{readGas, onGas, gasOf, sidesFrom, readPart, judgedPart, usable, gasChecks, readingChecks}
+use Rattle.part.specs.Read.{readGas, onGas, gasOf, sidesFrom, readPart, judgedPart, isUsable, gasChecks, readingChecks}
 
 -- ---- what a stage held that was not refused, and what followed it
 pub record Took {X A Y : Type 0} (made : A → X) (x : X) (next : A → Y) (y : Y) : Type 0 where
@@ -27,25 +27,25 @@ pub record Took {X A Y : Type 0} (made : A → X) (x : X) (next : A → Y) (y : 
   pub taken : x ≡ made held
   pub then : next held ≡ y
 
-took-gas : (g : GasRead) (next : Pair → PartRead) {sides : Sides} → onGas g next ≡ partRead.Units sides → Took gasRead.Units g next (partRead.Units sides)
-took-gas (gasRead.Units pair) next e = record { held = pair; taken = refl; then = e }
+took-gas : (g : GasRead) (next : GasSides → PartRead) {sides : Sides} → onGas g next ≡ partRead.Units sides → Took gasRead.Units g next (partRead.Units sides)
+took-gas (gasRead.Units both) next e = record { held = both; taken = refl; then = e }
 took-gas (gasRead.Refused refusal) next e = absurd (false≢true (cc))
 
 -- ---- units
 pub record Held (p : Part) (gas : Gas) (inBag inAir : Ends) : Type 0 where
-  pub bag : unitsOf (messageAt gas (p .bag)) ≡ reading.Units inBag
-  pub air : unitsOf (messageAt gas (p .air)) ≡ reading.Units inAir
+  pub bag : unitsOf (messageAt gas (p .bag)) ≡ worth.Units inBag
+  pub air : unitsOf (messageAt gas (p .air)) ≡ worth.Units inAir
 
-both-held : (part gas : ℕ) (b a : read.Reading) {pair : Pair} →
-    readGas part gas b a ≡ gasRead.Units pair → (b ≡ reading.Units (pair .bag)) × (a ≡ reading.Units (pair .air))
+both-held : (part gas : ℕ) (b a : Worth) {both : GasSides} →
+    readGas part gas b a ≡ gasRead.Units both → (b ≡ worth.Units (both .bag)) × (a ≡ worth.Units (both .air))
 unfolding readGas
-both-held part gas (reading.Units b) (reading.Units a) e = (cc, cc)
-both-held part gas (reading.Units b) reading.Unusable e = absurd (false≢true (cc))
-both-held part gas reading.Unusable a e = absurd (false≢true (cc))
+both-held part gas (worth.Units b) (worth.Units a) e = (cc, cc)
+both-held part gas (worth.Units b) worth.Unusable e = absurd (false≢true (cc))
+both-held part gas worth.Unusable a e = absurd (false≢true (cc))
 
-gas-held : (part : ℕ) (p : Part) (gas : Gas) {pair : Pair} → gasOf part p gas ≡ gasRead.Units pair → Held p gas (pair .bag) (pair .air)
+gas-held : (part : ℕ) (p : Part) (gas : Gas) {both : GasSides} → gasOf part p gas ≡ gasRead.Units both → Held p gas (both .bag) (both .air)
 gas-held part p gas e =
-    let held = both-held part (numberOf gas) (unitsOf (messageAt gas (p .bag))) (unitsOf (messageAt gas (p .air))) e in
+    let held = both-held part (gasNumber gas) (unitsOf (messageAt gas (p .bag))) (unitsOf (messageAt gas (p .air))) e in
     record { bag = held .0; air = held .1 }
 
 -- where a part has units, each of its messages has them
@@ -64,16 +64,16 @@ units-held part p sides e =
     (gas-held part p HC (hc .taken)) (gas-held part p CO (co .taken)) (gas-held part p NOx (nox .taken)) (gas-held part p CO2 (co2 .taken)))
 
 -- ---- refusals
-both-judged : (part gas : ℕ) (b a : read.Reading) (next : Pair → PartRead) (rest : Judged) → ((pair : Pair) → judgedPart (next pair) ≡ rest) →
-    judgedPart (onGas (readGas part gas b a) next) ≡ checked (usable b) (Reading part gas 1) (checked (usable a) (Reading part gas 2) rest)
+both-judged : (part gas : ℕ) (b a : Worth) (next : GasSides → PartRead) (rest : Judged) → ((both : GasSides) → judgedPart (next both) ≡ rest) →
+    judgedPart (onGas (readGas part gas b a) next) ≡ checked (isUsable b) (Reading part gas 1) (checked (isUsable a) (Reading part gas 2) rest)
 unfolding readGas
-both-judged part gas (reading.Units b) (reading.Units a) next rest h = h _
-both-judged part gas (reading.Units b) reading.Unusable next rest h = refl
-both-judged part gas reading.Unusable a next rest h = refl
+both-judged part gas (worth.Units b) (worth.Units a) next rest h = h _
+both-judged part gas (worth.Units b) worth.Unusable next rest h = refl
+both-judged part gas worth.Unusable a next rest h = refl
 
-gas-judged : (part : ℕ) (p : Part) (gas : Gas) (next : Pair → PartRead) (rest : Judged) → ((pair : Pair) → judgedPart (next pair) ≡ rest) →
+gas-judged : (part : ℕ) (p : Part) (gas : Gas) (next : GasSides → PartRead) (rest : Judged) → ((both : GasSides) → judgedPart (next both) ≡ rest) →
     judgedPart (onGas (gasOf part p gas) next) ≡ checkedAll (gasChecks part p gas) rest
-gas-judged part p gas next rest h = both-judged part (numberOf gas) (unitsOf (messageAt gas (p .bag))) (unitsOf (messageAt gas (p .air))) next rest h
+gas-judged part p gas next rest h = both-judged part (gasNumber gas) (unitsOf (messageAt gas (p .bag))) (unitsOf (messageAt gas (p .air))) next rest h
 
 -- a part is refused as its list of checks says
 pub part-judged : (part : ℕ) (p : Part) → judgedPart (readPart part p) ≡ judgedBy (readingChecks part p)

@@ -7,19 +7,17 @@ use Rattle.arith.specs.declared.Ends.{Ends}
 use Rattle.arith.specs.Fitting.{Sized}
 use Rattle.arith.proofs.Size.{wider-size}
 use Rattle.reading.specs.declared.Message.{Message}
-use Rattle.reading.specs.declared.Reading.the-variants.{Units}
+use Rattle.reading.specs.declared.Worth.the-variants.{Units}
 use Rattle.reading.specs.Units.{unitsOf}
 use Rattle.reading.specs.Gas.{Gas, HC, CO, CO2, isNOx}
 use Rattle.reading.proofs.Usable.{usable}
 use Rattle.bag.specs.declared.Part.{Part}
 use Rattle.bag.specs.declared.Triple.{Triple}
-use Rattle.bag.specs.declared.Densities.{Densities}
-use Rattle.bag.specs.Sheet.{densityAt}
 use Rattle.stage.specs.Part.{qOf, concentrationOf, noxMassOf}
-use Rattle.stage.specs.Ranges.{UpTo, VolumeRanges, GRanges, KhRanges, RateRanges, largestReading, largestConcentration, largestMass, largestKh, largestNoxMass}
+use Rattle.stage.specs.Ranges.{UpTo, VolumeRanges, GRanges, KhRanges}
+use Rattle.stage.specs.Ranges.{largestReading, largestConcentration, largestMass, largestKh, largestNoxMass}
 use Rattle.stage.proofs.UpTo.{upTo-size, exactly-upTo}
 use Rattle.stage.proofs.Sizes.{volume-size, g-upTo, concentration-size, gas-volume-size, mass-size, kh-size, nox-mass-size}
-use Rattle.part.specs.declared.Gases.{Gases}
 use Rattle.part.specs.declared.Sides.{Sides}
 use Rattle.part.specs.declared.PartRead.{PartRead}
 use Rattle.part.specs.declared.PartRead.the-variants as PartRead
@@ -27,7 +25,7 @@ use Rattle.part.specs.Read.{readPart}
 use Rattle.part.proofs.Read.{units-held}
 use Rattle.part.proofs.Each.{each-at}
 use Rattle.part.specs.Part.{endsAt, gIn, volumeIn, gasMass, massesOf, correctedFor, massIn}
-use Rattle.part.specs.Room.{ReadingSizes, GasRanges, MassesRanges, DryMassSizes, MassSizes, PartRanges}
+use Rattle.part.specs.Ranges.{ReadingSizes, GasRanges, MassesRanges, RatesRanges, DryMassSizes, MassSizes, PartRanges}
 
 -- ---- readings
 reading-upTo : (message : Message) {ends : Ends} → unitsOf message ≡ Units ends → UpTo largestReading ends
@@ -41,80 +39,81 @@ module _ (part : ℕ) (p : Part) {sides : Sides} (e : readPart part p ≡ PartRe
   air-sizes gas = reading-upTo _ (units-held part p sides e gas .air)
 
 -- ---- masses
-pub gas-mass-size :
-    {volume bag air g : Ends} {q density : ℕ} (k : ℕ) → GasRanges volume bag air g q density → Sized (k * largestConcentration) (concentrationOf bag air g q) → Sized (k * largestMass) (gasMass volume bag air g q density)
+pub gas-mass-size : {volume bag air g : Ends} {q density : ℕ} (k : ℕ) → GasRanges volume bag air g q density →
+    Sized (k * largestConcentration) (concentrationOf bag air g q) → Sized (k * largestMass) (gasMass volume bag air g q density)
 unfolding gasMass
 gas-mass-size k r c = mass-size k (gas-volume-size k (r .volume-size) c) (r .density-most)
 
-module _ {triple : Triple} {p : Part} {sides : Sides} (r : PartRanges triple p sides) where
-  g-ranges : GRanges (sides .bag .co2) (sides .bag .co) (sides .bag .hc) (triple .wc) (triple .wh)
-  g-ranges =
-      let b = r .bag-sizes in
-      let t = r .triple-ranges in
-      record { co2-reading = b CO2; co-reading = b CO; hc-reading = b HC; wc-most = t .wc-most; wh-most = t .wh-most }
+-- Kh makes NOx larger, and no other gas
+corrected-size : {mass kh : Ends} (b : Bool) → Sized largestMass mass → Sized largestKh kh →
+    Sized (cond b largestNoxMass largestMass) (cond b (noxMassOf mass kh) mass)
+corrected-size true m k = nox-mass-size (record { mass-size = m; kh-size = k })
+corrected-size false m k = m
 
+-- what a rate may ask for: four times the largest mass of readings
+rated : (b : Bool) → cond b largestNoxMass largestMass ≤ 4 * largestMass
+rated true = omega arith
+rated false = omega arith
+
+module _ {triple : Triple} {p : Part} {sides : Sides} (r : PartRanges triple p sides) where
   pub volume-ranges : VolumeRanges (p .pump) (p .revolutions) (p .barometer) (p .depression) (p .temperature)
   volume-ranges =
       let f = r .ranged in
-      record { swept = f .pumped; low = f .barometer .0; high = f .barometer .1; inlet = f .depression; cold = f .temperature .0; hot = f .temperature .1 }
-
-  pub masses-ranges : MassesRanges (volumeIn p) sides (gIn triple (sides .bag)) (qOf (triple .d)) (p .density)
-  masses-ranges =
-      let f = r .ranged in
       record {
-        volume-size = volume-size volume-ranges;
-        bag-sizes = r .bag-sizes;
-        air-sizes = r .air-sizes;
-        g-range = g-upTo g-ranges;
-        good = r .dilution;
-        q-most = omega (arith, r .triple-ranges .d-most);
-        density-most = λ gas. f .density gas .1;
+        swept = f .pumped;
+        low = f .barometer .0;
+        high = f .barometer .1;
+        inlet = f .depression .1;
+        cold = f .temperature .0;
+        hot = f .temperature .1;
       }
 
   pub kh-ranges : KhRanges (p .humidity) (p .saturation) (p .barometer)
   kh-ranges =
       let f = r .ranged in
       record {
-        ranges = record { humidity-most = f .humidity; saturation-most = f .saturation; low = f .barometer .0; high = f .barometer .1 };
+        ranges =
+            record {
+              humidity-most = f .humidity .1;
+              saturation-most = f .saturation .1;
+              low = f .barometer .0;
+              high = f .barometer .1;
+            };
         good = r .humidity;
       }
 
-module _ {volume g : Ends} {sides : Sides} {q : ℕ} {density : Densities} (r : MassesRanges volume sides g q density) where
-  pub gas-ranges : (gas : Gas) → GasRanges volume (endsAt gas (sides .bag)) (endsAt gas (sides .air)) g q (densityAt gas density)
-  gas-ranges gas =
+  g-ranges : GRanges (sides .bag .co2) (sides .bag .co) (sides .bag .hc) (triple .wc) (triple .wh)
+  g-ranges =
+      let b = r .bag-sizes in
+      let t = r .triple-ranged in
+      record { co2-reading = b CO2; co-reading = b CO; hc-reading = b HC; wc-most = t .wc .1; wh-most = t .wh .1 }
+
+  pub masses-ranges : MassesRanges (volumeIn p) sides (gIn triple (sides .bag)) (qOf (triple .d)) (p .density)
+  masses-ranges gas =
       record {
-        volume-size = r .volume-size;
+        volume-size = volume-size volume-ranges;
         ranges =
             record {
               bag-size = wider-size (omega arith) (upTo-size (r .bag-sizes gas));
               air-size = wider-size (omega arith) (upTo-size (r .air-sizes gas));
-              g-range = r .g-range;
-              good = r .good;
-              q-most = r .q-most;
+              g-range = g-upTo g-ranges;
+              good = r .dilution;
+              q-most = omega (arith, r .triple-ranged .d .1);
             };
-        density-most = r .density-most gas;
+        density-most = r .ranged .density gas .1;
       }
 
-  pub concentration-sizes : (gas : Gas) → Sized largestConcentration (concentrationOf (endsAt gas (sides .bag)) (endsAt gas (sides .air)) g q)
-  concentration-sizes gas = concentration-size (gas-ranges gas .ranges) (r .bag-sizes gas) (r .air-sizes gas)
+  pub concentration-sizes : (gas : Gas) →
+      Sized largestConcentration (concentrationOf (endsAt gas (sides .bag)) (endsAt gas (sides .air)) (gIn triple (sides .bag)) (qOf (triple .d)))
+  concentration-sizes gas = concentration-size (masses-ranges gas .ranges) (r .bag-sizes gas) (r .air-sizes gas)
 
-  pub masses-sizes : DryMassSizes (massesOf volume sides g q density)
+  pub masses-sizes : DryMassSizes (massesOf (volumeIn p) sides (gIn triple (sides .bag)) (qOf (triple .d)) (p .density))
   unfolding massesOf
-  masses-sizes gas = rw (each-at gas) (gas-mass-size 1 (gas-ranges gas) (concentration-sizes gas))
+  masses-sizes gas = rw (each-at gas) (gas-mass-size 1 (masses-ranges gas) (concentration-sizes gas))
 
--- Kh makes NOx larger, and no other gas
-corrected-size : {mass kh : Ends} (b : Bool) → Sized largestMass mass → Sized largestKh kh → Sized (cond b largestNoxMass largestMass) (cond b (noxMassOf mass kh) mass)
-corrected-size true m k = nox-mass-size (record { mass-size = m; kh-size = k })
-corrected-size false m k = m
+  pub mass-in-sizes : MassSizes (massIn triple p sides)
+  unfolding massIn correctedFor
+  mass-in-sizes gas = rw (each-at gas) (corrected-size (isNOx gas) (masses-sizes gas) (kh-size kh-ranges))
 
-pub mass-in-sizes : {triple : Triple} {p : Part} {sides : Sides} → PartRanges triple p sides → MassSizes (massIn triple p sides)
-unfolding massIn correctedFor
-mass-in-sizes r gas = rw (each-at gas) (corrected-size (isNOx gas) (masses-sizes (masses-ranges r) gas) (kh-size (kh-ranges r)))
-
--- what the rate asks of each gas
-pub rate-ranges : (mass : Gases) (distance : ℕ) → MassSizes mass → 100 ≤ distance → (gas : Gas) → RateRanges (endsAt gas mass) distance
-rate-ranges mass distance m d gas = record { mass-size = wider-size (most (isNOx gas)) (m gas); distance-least = d }
-  where
-    most : (b : Bool) → cond b largestNoxMass largestMass ≤ 4 * largestMass
-    most true = omega arith
-    most false = omega arith
+  pub rates-ranges : RatesRanges (massIn triple p sides) (p .distance)
+  rates-ranges gas = record { mass-size = wider-size (rated (isNOx gas)) (mass-in-sizes gas); distance-least = r .ranged .distance .0 }

@@ -1,3 +1,3 @@
 pub mod Part
-pub mod Room
+pub mod Ranges
 pub mod Read

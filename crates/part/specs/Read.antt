@@ -8,12 +8,12 @@ use Rattle.refusal.specs.declared.Judged.{Judged}
 use Rattle.refusal.specs.declared.Judged.the-variants as judged
 use Rattle.refusal.specs.Judging.{Check}
 use Rattle.reading.specs.declared.Message.{Message}
-use Rattle.reading.specs.declared.Reading as read
-use Rattle.reading.specs.declared.Reading.the-variants as reading
+use Rattle.reading.specs.declared.Worth.{Worth}
+use Rattle.reading.specs.declared.Worth.the-variants as worth
 use Rattle.reading.specs.Units.{unitsOf}
-use Rattle.reading.specs.Gas.{Gas, HC, CO, NOx, CO2, numberOf, among, along, messageAt}
+use Rattle.reading.specs.Gas.{Gas, HC, CO, NOx, CO2, gasNumber, among, along, messageAt}
 use Rattle.bag.specs.declared.Part.{Part}
-use Rattle.part.specs.declared.Pair.{Pair}
+use Rattle.part.specs.declared.GasSides.{GasSides}
 use Rattle.part.specs.declared.Sides.{Sides}
 use Rattle.part.specs.declared.GasRead.{GasRead}
 use Rattle.part.specs.declared.GasRead.the-variants as gasRead
@@ -21,21 +21,21 @@ use Rattle.part.specs.declared.PartRead.{PartRead}
 use Rattle.part.specs.declared.PartRead.the-variants as partRead
 use Rattle.part.specs.Part.{each}
 
--- a gas of a part, from its two messages as converted
-unfoldable pub readGas : ℕ → ℕ → read.Reading → read.Reading → GasRead
-readGas part gas reading.Unusable air = gasRead.Refused (Reading part gas 1)
-readGas part gas (reading.Units inBag) reading.Unusable = gasRead.Refused (Reading part gas 2)
-readGas part gas (reading.Units inBag) (reading.Units inAir) = gasRead.Units (record { bag = inBag; air = inAir })
+-- a gas of a part, from what its two messages are worth: "bag before air"
+unfoldable pub readGas : ℕ → ℕ → Worth → Worth → GasRead
+readGas part gas worth.Unusable air = gasRead.Refused (Reading part gas 1)
+readGas part gas (worth.Units inBag) worth.Unusable = gasRead.Refused (Reading part gas 2)
+readGas part gas (worth.Units inBag) (worth.Units inAir) = gasRead.Units (record { bag = inBag; air = inAir })
 
 -- what follows a gas that was read
-abbrev pub onGas : GasRead → (Pair → PartRead) → PartRead
-onGas (gasRead.Units pair) next = next pair
+abbrev pub onGas : GasRead → (GasSides → PartRead) → PartRead
+onGas (gasRead.Units both) next = next both
 onGas (gasRead.Refused refusal) next = partRead.Refused refusal
 
 abbrev pub gasOf : ℕ → Part → Gas → GasRead
-gasOf part p gas = readGas part (numberOf gas) (unitsOf (messageAt gas (p .bag))) (unitsOf (messageAt gas (p .air)))
+gasOf part p gas = readGas part (gasNumber gas) (unitsOf (messageAt gas (p .bag))) (unitsOf (messageAt gas (p .air)))
 
-unfoldable pub sidesFrom : Pair → Pair → Pair → Pair → Sides
+unfoldable pub sidesFrom : GasSides → GasSides → GasSides → GasSides → Sides
 sidesFrom hc co nox co2 = record { bag = each (λ gas. among gas hc co nox co2 .bag); air = each (λ gas. among gas hc co nox co2 .air) }
 
 unfoldable pub readPart : ℕ → Part → PartRead
@@ -52,16 +52,16 @@ judgedPart (partRead.Units sides) = judged.Accepted
 judgedPart (partRead.Refused refusal) = judged.Refused refusal
 
 -- ---- as the table has it: one check for each message
-abbrev pub usable : read.Reading → Bool
-usable (reading.Units ends) = true
-usable reading.Unusable = false
+abbrev pub isUsable : Worth → Bool
+isUsable (worth.Units ends) = true
+isUsable worth.Unusable = false
 
 -- 12: "reading unusable"
 abbrev pub readingCheck : ℕ → ℕ → ℕ → Message → Check
-readingCheck part gas side message = record { holds = usable (unitsOf message); refusal = Reading part gas side }
+readingCheck part gas side message = record { holds = isUsable (unitsOf message); refusal = Reading part gas side }
 
 abbrev pub gasChecks : ℕ → Part → Gas → List Check
-gasChecks part p gas = readingCheck part (numberOf gas) 1 (messageAt gas (p .bag)) ∷ readingCheck part (numberOf gas) 2 (messageAt gas (p .air)) ∷ []
+gasChecks part p gas = readingCheck part (gasNumber gas) 1 (messageAt gas (p .bag)) ∷ readingCheck part (gasNumber gas) 2 (messageAt gas (p .air)) ∷ []
 
 unfoldable pub readingChecks : ℕ → Part → List Check
 readingChecks part p = along (gasChecks part p)

@@ -4,16 +4,16 @@ use bag::Densities;
 use bag::Part;
 use bag::Triple;
 use reading::Message;
+use reading::Worth;
 use refusal::Refusal;
 ghost use mathlib.Core.Path.{_≡_};
 ghost use Rattle.reading.specs.Units.{unitsOf};
 ghost use Rattle.part.specs.Part.{gIn, diluted, dryEnough, gasMass, massesOf, volumeIn, correctedFor, ratesOf, massIn, partOf};
 ghost use Rattle.part.specs.Read.{readGas, sidesFrom, readPart};
-ghost use Prim.Native.Nat.{_≤_};
 ghost use Rattle.arith.specs.Fitting.{Sized};
-ghost use Rattle.bag.specs.Sound.{Ranged};
+ghost use Rattle.bag.specs.Sound.{Ranged, RangedTriple};
 ghost use Rattle.stage.specs.Ranges.{largestKh};
-ghost use Rattle.part.specs.Room.{ReadingSizes, TripleRanges, GasRanges, MassesRanges, DryMassSizes, MassSizes, PartRanges};
+ghost use Rattle.part.specs.Ranges.{ReadingSizes, MassesRanges, GasRanges, DryMassSizes, RatesRanges, PartRanges};
 
 // The ends of each gas: readings, masses or rates.
 #[repr(C)]
@@ -39,13 +39,13 @@ pub struct PartResult {
 }
 
 // The ends of a gas, in the bag and in the air.
-pub struct Pair {
+pub struct GasSides {
     pub bag: Ends,
     pub air: Ends,
 }
 
 pub enum GasRead {
-    Units(Pair),
+    Units(GasSides),
     Refused(Refusal),
 }
 
@@ -58,19 +58,19 @@ pub enum PartRead {
 fn read_gas(part: u32, gas: u32, bag: Message, air: Message) -> GasRead
     ensures { λ r. ⌜ r ≡ readGas part gas (unitsOf bag) (unitsOf air) ⌝ }
 {
-    let reading::Reading::Units(in_bag) = reading::convert(bag) else {
+    let Worth::Units(in_bag) = reading::convert(bag) else {
         return GasRead::Refused(Refusal::Reading { part, gas, side: 1 });
     };
-    let reading::Reading::Units(in_air) = reading::convert(air) else {
+    let Worth::Units(in_air) = reading::convert(air) else {
         return GasRead::Refused(Refusal::Reading { part, gas, side: 2 });
     };
-    GasRead::Units(Pair {
+    GasRead::Units(GasSides {
         bag: in_bag,
         air: in_air,
     })
 }
 
-fn sides_from(hc: Pair, co: Pair, nox: Pair, co2: Pair) -> Sides
+fn sides_from(hc: GasSides, co: GasSides, nox: GasSides, co2: GasSides) -> Sides
     ensures { λ r. ⌜ r ≡ sidesFrom hc co nox co2 ⌝ }
 {
     let bag_hc = hc.bag;
@@ -130,7 +130,7 @@ pub fn read_part(part: u32, p: Part) -> PartRead
 }
 
 pub fn g_in(triple: Triple, bag: Gases) -> Ends
-    requires { ⌜ (TripleRanges triple) × (ReadingSizes bag) ⌝ }
+    requires { ⌜ (RangedTriple triple) × (ReadingSizes bag) ⌝ }
     ensures { λ r. ⌜ r ≡ gIn triple bag ⌝ }
 {
     stage::g_of(bag.co2, bag.co, bag.hc, triple.wc, triple.wh)
@@ -138,7 +138,7 @@ pub fn g_in(triple: Triple, bag: Gases) -> Ends
 
 // Refusal 13 where it does not hold.
 pub fn is_diluted(triple: Triple, bag: Gases) -> bool
-    requires { ⌜ (TripleRanges triple) × (ReadingSizes bag) ⌝ }
+    requires { ⌜ (RangedTriple triple) × (ReadingSizes bag) ⌝ }
     ensures { λ r. ⌜ r ≡ diluted triple bag ⌝ }
 {
     stage::dilution_good(g_in(triple, bag), stage::q_of(triple.d))
@@ -179,7 +179,7 @@ fn corrected_for(kh: Ends, mass: Gases) -> Gases
 }
 
 fn rates(mass: Gases, distance: u32) -> Gases
-    requires { ⌜ (MassSizes mass) × (100 ≤ distance) ⌝ }
+    requires { ⌜ RatesRanges mass distance ⌝ }
     ensures { λ r. ⌜ r ≡ ratesOf mass distance ⌝ }
 {
     Gases {

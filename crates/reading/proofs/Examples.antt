@@ -7,14 +7,14 @@ use lib.Ieee.{Float, binary32, ofBits}
 use Rattle.arith.specs.Rounding.{divDown}
 use Rattle.arith.specs.Stages.{exactly}
 use Rattle.reading.specs.declared.Message.the-variants.{Ppm, Percent}
-use Rattle.reading.specs.declared.Reading.{Reading}
-use Rattle.reading.specs.declared.Reading.the-variants.{Units, Unusable}
+use Rattle.reading.specs.declared.Worth.{Worth}
+use Rattle.reading.specs.declared.Worth.the-variants.{Units, Unusable}
 use Rattle.reading.specs.Units.{unitsOf}
 
 abbrev float : ℕ → Float
 float bits = ofBits binary32 bits
 
-abbrev units : ℕ → Reading
+abbrev units : ℕ → Worth
 units u = Units (exactly (pos u))
 
 -- 1/512 ppm, which is half a unit, and 1/1,024 ppm

@@ -2,7 +2,8 @@
 -- Assumes nothing.
 use mathlib.Core.Path.{_≡_, refl, sym, ap, _∙_, subst}
 use Prim.Native.Nat.{ℕ, zero, suc, _+_, _-_, _*_, _%_, _^_, _≤_, _<_}
-use native.Mathlib.Nat.{le-trans, le-of-eq, le-of-lt, le-of-suc-le-suc, lt-of-lt-of-le, lt-of-le-of-lt, lt-of-not-le, lt-irrefl, mul-one, one-mul, mul-comm, mul-assoc, mul-left-comm, mul-pos, mul-le-mul-left, mul-lt-mul-of-pos-right, lt-of-mul-lt-mul-right}
+use native.Mathlib.Nat.{le-trans, le-of-eq, le-of-lt, le-of-suc-le-suc, lt-of-lt-of-le, lt-of-le-of-lt, lt-of-not-le, lt-irrefl, mul-one, one-mul}
+use native.Mathlib.Nat.{mul-comm, mul-assoc, mul-left-comm, mul-pos, mul-le-mul-left, mul-lt-mul-of-pos-right, lt-of-mul-lt-mul-right}
 use mathlib.Core.Bool.{Bool, true, false, _&&_, true≢false}
 use lib.IntN.{ℤ, pos, negsuc}
 use lib.Dec.{T, leb, ltb, eqb, ltb→lt, leb→le, eqb→eq, lit≤, lit<}
@@ -53,7 +54,8 @@ product-exact : (f : Format) (s : Bool) (m : ℕ) (e : ℤ) (h : Float) (b : ℕ
 product-exact f s m e nan b v few E small = absurd v
 product-exact f s m e (inf t) b v few E small = absurd v
 product-exact f s m e (fin true c d) b v few E small = absurd (true≢false (v .0))
-product-exact f s m e (fin false c d) b v few E small = subst (λ (x : Float). HasValue x s (m * up e * b) (down e)) (sym (mul-is f s m e c d ∙ same-value)) rounded
+product-exact f s m e (fin false c d) b v few E small =
+    subst (λ (x : Float). HasValue x s (m * up e * b) (down e)) (sym (mul-is f s m e c d ∙ same-value)) rounded
   where
     same-value : round f s (m * up e * (c * up d)) (down e * down d) ≡ round f s (m * up e * b) (down e)
     same-value =

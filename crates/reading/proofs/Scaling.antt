@@ -2,7 +2,8 @@
 -- the float's exact value; what the range test turns away is unusable. Assumes nothing.
 use mathlib.Core.Path.{_≡_, refl, sym, ap, _∙_, subst}
 use Prim.Native.Nat.{ℕ, zero, suc, _+_, _*_, _/_, _^_, _≤_, _<_}
-use native.Mathlib.Nat.{le-of-eq, le-of-lt, lt-of-lt-of-le, lt-of-le-of-lt, lt-irrefl, zero-lt-suc, zero-mul, mul-one, mul-comm, mul-left-comm, mul-pos, mul-le-mul, mul-le-mul-right, div-lt-iff-lt-mul, le-div-iff-mul-le, add-div-right, div-div-eq-div-mul}
+use native.Mathlib.Nat.{le-of-eq, le-of-lt, lt-of-lt-of-le, lt-of-le-of-lt, lt-irrefl, zero-lt-suc, zero-mul, mul-one, mul-comm, mul-left-comm}
+use native.Mathlib.Nat.{mul-pos, mul-le-mul, mul-le-mul-right, div-lt-iff-lt-mul, le-div-iff-mul-le, add-div-right, div-div-eq-div-mul}
 use native.Mathlib.Omega.{arith}
 use mathlib.Core.Bool.{Bool, true, false, cond, true≢false}
 use lib.IntN.{ℤ, pos, negℤ}
@@ -13,7 +14,7 @@ use lib.Ieee.Fits.{down-pos}
 use Rattle.arith.specs.Rounding.{divDown}
 use Rattle.arith.specs.Stages.{exactly}
 use Rattle.reading.specs.Units.{value, exactValue, upToLimit, inUnits}
-use Rattle.reading.specs.declared.Reading.the-variants.{Units, Unusable}
+use Rattle.reading.specs.declared.Worth.the-variants.{Units, Unusable}
 use Rattle.reading.proofs.Product.{widened-product}
 use Rattle.reading.proofs.Tests.{zeroFloat, pastLimit, zero-or-plus, below-zero, in-limit, past-limit, cut}
 

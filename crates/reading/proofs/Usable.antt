@@ -3,8 +3,7 @@ use mathlib.Core.Path.{_≡_, sym, _∙_}
 use mathlib.Core.Logic.{inl, inr}
 use Prim.Native.Nat.{ℕ, _*_, _≤_}
 use native.Mathlib.Nat.{eq-zero-or-pos}
-use native.Mathlib.Omega.{arith}
-use mathlib.Core.Bool.{Bool, true, false, cond}
+use mathlib.Core.Bool.{Bool, true, false, cond, false≢true}
 use lib.IntN.{pos}
 use lib.Dec.{T, leb, leb→le}
 use lib.Ieee.{Float, nan, inf, fin, up, down}
@@ -12,7 +11,7 @@ use Rattle.arith.specs.declared.Ends.{Ends}
 use Rattle.arith.specs.Stages.{exactly}
 use Rattle.reading.specs.declared.Message.{Message}
 use Rattle.reading.specs.declared.Message.the-variants.{Ppm, Percent, OverRange, NotFitted}
-use Rattle.reading.specs.declared.Reading.the-variants.{Units, Unusable}
+use Rattle.reading.specs.declared.Worth.the-variants.{Units, Unusable}
 use Rattle.reading.specs.Units.{exactValue, upToLimit, inUnits, unitsOf}
 use Rattle.reading.proofs.Scaling.{nearestOf, plain, minus}
 
@@ -21,31 +20,28 @@ pub record Usable (e : Ends) : Type 0 where
   pub limit : units ≤ 16777216
   pub exact : e ≡ exactly (pos units)
 
-not-usable : {e : Ends} → Unusable ≡ Units e → ⊥
-not-usable p = let z : _≡_ {A = ℕ} 0 1 = cc in omega arith
-
--- the limit was passed
-within : (u : ℕ) {e : Ends} → upToLimit (pos u) ≡ Units e → Usable e
-within u {e} h = go (leb u 16777216) (leb→le u 16777216) h
+-- the limit was kept
+limited : (u : ℕ) {e : Ends} → upToLimit (pos u) ≡ Units e → Usable e
+limited u {e} h = go (leb u 16777216) (leb→le u 16777216) h
   where
     go : (t : Bool) → (T t → u ≤ 16777216) → cond t (Units (exactly (pos u))) Unusable ≡ Units e → Usable e
     go true f h = record { units = u; limit = f tt; exact = cc }
-    go false f h = absurd (not-usable h)
+    go false f h = absurd (false≢true (cc))
 
 -- a minus is left to minus zero alone
 at-float : (k : ℕ) (x : Float) {e : Ends} → inUnits (pos k) (exactValue x) ≡ Units e → Usable e
-at-float k nan h = absurd (not-usable h)
-at-float k (inf s) h = absurd (not-usable h)
-at-float k (fin false m e) h = within (nearestOf (k * (m * up e)) (down e)) (sym (plain k false m e (λ t. absurd t)) ∙ h)
+at-float k nan h = absurd (false≢true (cc))
+at-float k (inf s) h = absurd (false≢true (cc))
+at-float k (fin false m e) h = limited (nearestOf (k * (m * up e)) (down e)) (sym (plain k false m e (λ t. absurd t)) ∙ h)
 at-float k (fin true m e) h =
     elim (eq-zero-or-pos (m * up e)) [
-      | inl z ↦ within (nearestOf (k * (m * up e)) (down e)) (sym (plain k true m e (λ t. z)) ∙ h)
-      | inr p ↦ absurd (not-usable (minus (m * up e) (pos k) (pos (down e)) p ∙ h))
+      | inl z ↦ limited (nearestOf (k * (m * up e)) (down e)) (sym (plain k true m e (λ t. z)) ∙ h)
+      | inr p ↦ let below = minus (m * up e) (pos k) (pos (down e)) p in absurd (false≢true (cc))
     ]
 
 pub usable : (message : Message) {e : Ends} → unitsOf message ≡ Units e → Usable e
 unfolding unitsOf
 usable (Ppm x) h = at-float 256 x h
 usable (Percent x) h = at-float 2560000 x h
-usable OverRange h = absurd (not-usable h)
-usable NotFitted h = absurd (not-usable h)
+usable OverRange h = absurd (false≢true (cc))
+usable NotFitted h = absurd (false≢true (cc))

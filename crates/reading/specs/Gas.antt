@@ -13,11 +13,11 @@ pub data Gas : Type 0 where
   CO2 : Gas
 
 -- "gases go HC, CO, NOx, CO2"
-abbrev pub numberOf : Gas → ℕ
-numberOf HC = 1
-numberOf CO = 2
-numberOf NOx = 3
-numberOf CO2 = 4
+abbrev pub gasNumber : Gas → ℕ
+gasNumber HC = 1
+gasNumber CO = 2
+gasNumber NOx = 3
+gasNumber CO2 = 4
 
 -- the gas that some rules name apart from the others
 abbrev pub isNOx : Gas → Bool

@@ -10,8 +10,8 @@ use Rattle.arith.specs.Stages.{exactly}
 use Rattle.arith.specs.Fraction.{Fraction, whole, _+ᶠ_, _*ᶠ_}
 use Rattle.reading.specs.declared.Message.{Message}
 use Rattle.reading.specs.declared.Message.the-variants.{Ppm, Percent, OverRange, NotFitted}
-use Rattle.reading.specs.declared.Reading.{Reading}
-use Rattle.reading.specs.declared.Reading.the-variants.{Units, Unusable}
+use Rattle.reading.specs.declared.Worth.{Worth}
+use Rattle.reading.specs.declared.Worth.the-variants.{Units, Unusable}
 
 -- "the float's exact value": a fraction; what is not a number or infinite has none
 pub data Exact : Type 0 where
@@ -36,16 +36,16 @@ abbrev pub nearest : Fraction → ℤ
 nearest q = wholePart (q +ᶠ half)
 
 -- "after rounding more than 16,777,216 units" is unusable. A usable reading enters the stages as ends, both the same.
-abbrev pub upToLimit : ℤ → Reading
+abbrev pub upToLimit : ℤ → Worth
 upToLimit u = cond (leZ u (pos 16777216)) (Units (exactly u)) Unusable
 
 -- `each` units to one ppm or percent; "below zero" is unusable
-abbrev pub inUnits : ℤ → Exact → Reading
+abbrev pub inUnits : ℤ → Exact → Worth
 inUnits each none = Unusable
 inUnits each (value q) = cond (ltZ (q .num) (pos 0)) Unusable (upToLimit (nearest (q *ᶠ whole each)))
 
 -- "ppm by 256; percent by 2,560,000"; "over range, not fitted" are unusable
-unfoldable pub unitsOf : Message → Reading
+unfoldable pub unitsOf : Message → Worth
 unitsOf (Ppm x) = inUnits (pos 256) (exactValue x)
 unitsOf (Percent x) = inUnits (pos 2560000) (exactValue x)
 unitsOf OverRange = Unusable

@@ -22,27 +22,27 @@ pub struct Bag {
     pub co2: Message,
 }
 
-// The ends of a usable message, in units.
-pub enum Reading {
+// What a message is worth: its ends in units, where it is usable.
+pub enum Worth {
     Units(Ends),
     Unusable,
 }
 
 // The limit is judged here, on whole units, and so after the rounding.
-fn up_to_limit(units: u64) -> Reading
+fn up_to_limit(units: u64) -> Worth
     ensures { λ r. ⌜ r ≡ upToLimit (pos units) ⌝ }
 {
     if units <= 16777216 {
-        Reading::Units(arith::exactly(units as i64))
+        Worth::Units(arith::exactly(units as i64))
     } else {
-        Reading::Unusable
+        Worth::Unusable
     }
 }
 
 // A float in units, `each` of them to one ppm or percent. The range test turns away what is not a number, infinite, below zero or past 65,537,
 // which is over the limit in either measure; then the product is exact. It counts half units: one more of them, halved and cut, is the
 // nearest unit, halves up.
-fn in_units(x: f32, each: u32) -> Reading
+fn in_units(x: f32, each: u32) -> Worth
     requires { ⌜ 256 ≤ each ⌝ ∗ ⌜ each < 2 ^ 28 ⌝ }
     ensures { λ r. ⌜ r ≡ inUnits (pos each) (exactValue x) ⌝ }
 {
@@ -52,17 +52,17 @@ fn in_units(x: f32, each: u32) -> Reading
             return up_to_limit((std::num::truncating_f64_to_u64(halves) + 1) / 2);
         }
     }
-    Reading::Unusable
+    Worth::Unusable
 }
 
-pub fn convert(message: Message) -> Reading
+pub fn convert(message: Message) -> Worth
     ensures { λ r. ⌜ r ≡ unitsOf message ⌝ }
 {
     match message {
         Message::Ppm(x) => in_units(x, 256),
         Message::Percent(x) => in_units(x, 2560000),
-        Message::OverRange => Reading::Unusable,
-        Message::NotFitted => Reading::Unusable,
+        Message::OverRange => Worth::Unusable,
+        Message::NotFitted => Worth::Unusable,
     }
 }
 

@@ -3,15 +3,15 @@ use libc::STDOUT_FILENO;
 use print::end_line;
 use print::text;
 use reading::Message;
-use reading::Reading;
+use reading::Worth;
 
 fn show(message: Message) {
     let reading = reading::convert(message);
     match reading {
-        Reading::Units(ends) => {
+        Worth::Units(ends) => {
             print::ends(ends);
         }
-        Reading::Unusable => {
+        Worth::Unusable => {
             text(b" unusable");
         }
     }

@@ -16,9 +16,13 @@ use Rattle.arith.proofs.Size.{wider-size, exactly-size, sum-size, difference-si
 use Rattle.stage.proofs.UpTo.{upTo-size, wider-upTo, sum-upTo, times-upTo, product-upTo, difference-upTo-size}
 use Rattle.stage.specs.declared.Weights.{Weights}
 use Rattle.stage.specs.Combination.{combinationOf}
-use Rattle.stage.specs.Part.{gtr, kelvinOf, volumeOf, gOf, netOf, concentrationOf, gasVolumeOf, massOf, vapourOf, dryOf, humidityGood, khOf, noxMassOf, rateOf}
+use Rattle.bag.specs.Fields.{mostPumped, barometerRange, distanceRange, densityRange}
+use Rattle.stage.specs.Part.{gtr, kelvinOf, volumeOf, gOf, netOf, concentrationOf, gasVolumeOf, massOf}
+use Rattle.stage.specs.Part.{vapourOf, dryOf, humidityGood, khOf, noxMassOf, rateOf}
 use Rattle.stage.specs.Test.{weightsOf, weightedOf}
-use Rattle.stage.specs.Ranges.{UpTo, VolumeRanges, GRanges, ConcentrationRanges, HumidityRanges, KhRanges, NoxMassRanges, FuelRanges, largestReading, largestSigned, largestG, largestVolume, largestConcentration, largestGasVolume, largestMass, largestKh, largestNoxMass}
+use Rattle.stage.specs.Ranges.{UpTo, VolumeRanges, GRanges, ConcentrationRanges, HumidityRanges, KhRanges, NoxMassRanges, FuelRanges}
+use Rattle.stage.specs.Ranges.{largestReading, largestSigned, largestG, largestVolume, largestConcentration, largestGasVolume, largestMass}
+use Rattle.stage.specs.Ranges.{largestKh, largestNoxMass}
 
 -- ---- operations. A divisor that is at least k
 pub divided-by-size : {q : ℕ} {a : Ends} (k : ℕ) (d : ℤ) → 0 < k → pos k ≤ℤ d → Sized (k * q) a → Sized q (dividedBy a d)
@@ -27,9 +31,11 @@ divided-by-size k (negsuc d) p h s = absurd (h .le)
 
 -- three numbers of size m, with factors up to j, k and l
 pub combination-size :
-    {m j k l : ℕ} {a b c : Ends} (x y z : ℕ) → x ≤ j → y ≤ k → z ≤ l → Sized m a → Sized m b → Sized m c → Sized (j * m + k * m + l * m) (combinationOf x a y b z c)
+    {m j k l : ℕ} {a b c : Ends} (x y z : ℕ) → x ≤ j → y ≤ k → z ≤ l →
+    Sized m a → Sized m b → Sized m c → Sized (j * m + k * m + l * m) (combinationOf x a y b z c)
 unfolding combinationOf
-combination-size x y z hx hy hz ha hb hc = sum-size (sum-size (scaled-size (pos x) hx ha) (scaled-size (pos y) hy hb)) (scaled-size (pos z) hz hc)
+combination-size x y z hx hy hz ha hb hc =
+    sum-size (sum-size (scaled-size (pos x) hx ha) (scaled-size (pos y) hy hb)) (scaled-size (pos z) hz hc)
 
 -- ---- volume
 module _ {pump revolutions barometer depression : ℕ} {temperature : ℤ} (r : VolumeRanges pump revolutions barometer depression temperature) where
@@ -39,8 +45,10 @@ module _ {pump revolutions barometer depression : ℕ} {temperature : ℤ} (r : 
   pub kelvin-most : kelvinOf gtr temperature ≤ℤ pos 8463
   kelvin-most = omega (zs, r .hot, mul-parts (pos 2) temperature, add-parts (pos 2 *ℤ temperature) (pos 5463))
 
-  pub swept-most : pump * revolutions * (barometer - depression) ≤ 1000000000 * 110000
-  swept-most = let h : barometer - depression ≤ 110000 = omega (arith, r .high) in mul-le-mul (r .swept) h
+  pub swept-most : pump * revolutions * (barometer - depression) ≤ mostPumped * barometerRange .most
+  swept-most =
+      let h : barometer - depression ≤ barometerRange .most = omega (arith, r .high) in
+      mul-le-mul (r .swept) h
 
   pub volume-size : Sized largestVolume (volumeOf gtr pump revolutions barometer depression temperature)
   unfolding volumeOf
@@ -87,7 +95,8 @@ module _ {bag air g : Ends} {q : ℕ} (r : ConcentrationRanges bag air g q) wher
 
   concentration-by : (m : ℕ) → Sized (m * q) (netOf bag air g q) → Sized (16 * m) (concentrationOf bag air g q)
   unfolding concentrationOf
-  concentration-by m h = divided-size q (omega (zs, q-positive)) (wider-size (omega arith) (scaled-size {m = 16} (pos 16) (omega arith) h))
+  concentration-by m h =
+      divided-size q (omega (zs, q-positive)) (wider-size (omega arith) (scaled-size {m = 16} (pos 16) (omega arith) h))
 
   pub signed-concentration-size : Sized (4 * largestConcentration) (concentrationOf bag air g q)
   signed-concentration-size = concentration-by (2 * largestSigned) (wider-size (omega arith) net-size)
@@ -99,11 +108,13 @@ module _ {bag air g : Ends} {q : ℕ} (r : ConcentrationRanges bag air g q) wher
       (difference-upTo-size (wider-upTo (times-upTo {m = q} q (omega arith) b) (omega arith)) (product-upTo a rest-upTo))
 
 -- ---- mass, of a concentration up to k times the largest of readings
-pub gas-volume-size : {volume concentration : Ends} (k : ℕ) → Sized largestVolume volume → Sized (k * largestConcentration) concentration → Sized (k * largestGasVolume) (gasVolumeOf volume concentration)
+pub gas-volume-size : {volume concentration : Ends} (k : ℕ) →
+    Sized largestVolume volume → Sized (k * largestConcentration) concentration → Sized (k * largestGasVolume) (gasVolumeOf volume concentration)
 unfolding gasVolumeOf
 gas-volume-size k v c = divided-size 4096000 (omega arith) (wider-size (omega arith) (product-size v c))
 
-pub mass-size : {gas : Ends} {density : ℕ} (k : ℕ) → Sized (k * largestGasVolume) gas → density ≤ 2100000 → Sized (k * largestMass) (massOf gas density)
+pub mass-size : {gas : Ends} {density : ℕ} (k : ℕ) →
+    Sized (k * largestGasVolume) gas → density ≤ densityRange .most → Sized (k * largestMass) (massOf gas density)
 unfolding massOf
 mass-size {density = density} k v h = divided-size 1000000 (omega arith) (wider-size (omega arith) (scaled-size (pos density) h v))
 
@@ -118,7 +129,9 @@ module _ {humidity saturation barometer : ℕ} (r : KhRanges humidity saturation
   humid = leb-true _ _ (r .good)
 
   -- H at most 30 leaves this much of the divisor, since 20,434,190 x 300 is 987,000 x 6,211
-  pub divisor-least : 365030 * dryOf humidity saturation barometer ≤ 1352030 * dryOf humidity saturation barometer - 20434190 * vapourOf humidity saturation
+  pub divisor-least :
+      365030 * dryOf humidity saturation barometer
+      ≤ 1352030 * dryOf humidity saturation barometer - 20434190 * vapourOf humidity saturation
   divisor-least = omega (arith, humid)
 
   pub kh-size : Sized largestKh (khOf humidity saturation barometer)
@@ -133,9 +146,11 @@ unfolding noxMassOf
 nox-mass-size r = divided-size 65536 (omega arith) (wider-size (omega arith) (product-size (r .mass-size) (r .kh-size)))
 
 -- ---- rate: at most ten times the mass, since the distance is at least 100 m
-pub rate-size : {m : ℕ} {mass : Ends} (distance : ℕ) → 100 ≤ distance → Sized m mass → Sized (10 * m) (rateOf mass distance)
+pub rate-size : {m : ℕ} {mass : Ends} (distance : ℕ) → distanceRange .least ≤ distance → Sized m mass → Sized (10 * m) (rateOf mass distance)
 unfolding rateOf
-rate-size distance h s = divided-by-size 100 (pos distance) (omega arith) (omega zs) (wider-size (omega arith) (scaled-size {m = 1000} (pos 1000) (omega arith) s))
+rate-size distance h s =
+    divided-by-size (distanceRange .least) (pos distance) (omega arith) (omega zs)
+    (wider-size (omega arith) (scaled-size {m = 1000} (pos 1000) (omega arith) s))
 
 -- ---- the whole test. The weights of a class are a whole
 pub weights-whole : (class : ℕ) → 1 ≤ class → class ≤ 3 → weightsOf class .first + weightsOf class .second + weightsOf class .third ≡ 100
@@ -147,14 +162,18 @@ weights-whole (suc (suc (suc (suc class)))) l h = absurd (omega arith)
 
 -- so the weighted ends are no larger than the rates
 pub weighted-size :
-    {m : ℕ} {first second third : Ends} (weights : Weights) → weights .first + weights .second + weights .third ≡ 100 → Sized m first → Sized m second → Sized m third → Sized m (weightedOf weights first second third)
+    {m : ℕ} {first second third : Ends} (weights : Weights) → weights .first + weights .second + weights .third ≡ 100 →
+    Sized m first → Sized m second → Sized m third → Sized m (weightedOf weights first second third)
 unfolding weightedOf
 weighted-size {m} weights e s t u =
     let f : (weights .first + weights .second + weights .third) * m ≡ 100 * m = ap (λ (n : ℕ). n * m) e in
     divided-size 100 (omega arith)
     (wider-size (omega arith)
-    (combination-size {j = weights .first} {k = weights .second} {l = weights .third} (weights .first) (weights .second) (weights .third) (omega arith) (omega arith) (omega arith) s t u))
+    (combination-size {j = weights .first} {k = weights .second} {l = weights .third} (weights .first) (weights .second) (weights .third)
+    (omega arith) (omega arith) (omega arith) s t u))
 
 -- k times the carbon reaches 92 % of 2^63
-pub carbon-size : {k f1 f2 f3 density : ℕ} {hc co co2 : Ends} → FuelRanges k f1 f2 f3 density hc co co2 → Sized (3000 * (10 * largestMass)) (combinationOf f1 hc f2 co f3 co2)
-carbon-size {f1 = f1} {f2 = f2} {f3 = f3} r = combination-size f1 f2 f3 (r .f1-most) (r .f2-most) (r .f3-most) (r .hc-size) (r .co-size) (r .co2-size)
+pub carbon-size : {k f1 f2 f3 density : ℕ} {hc co co2 : Ends} → FuelRanges k f1 f2 f3 density hc co co2 →
+    Sized (3000 * (10 * largestMass)) (combinationOf f1 hc f2 co f3 co2)
+carbon-size {f1 = f1} {f2 = f2} {f3 = f3} r =
+    combination-size f1 f2 f3 (r .f1-most) (r .f2-most) (r .f3-most) (r .hc-size) (r .co-size) (r .co2-size)

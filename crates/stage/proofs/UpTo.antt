@@ -15,35 +15,35 @@ use Rattle.arith.proofs.Size.{abs-parts}
 use Rattle.stage.specs.Ranges.{UpTo}
 
 -- ---- a number from 0 to m
-record Within (m : ℕ) (z : ℤ) : Type 0 where
+record Natural (m : ℕ) (z : ℤ) : Type 0 where
   least : pos 0 ≤ℤ z
   most : z ≤ℤ pos m
 
-product-within : {m k : ℕ} (x y : ℤ) → Within m x → Within k y → Within (m * k) (x *ℤ y)
-product-within {m} {k} (pos x) (pos y) h j =
+product-natural : {m k : ℕ} (x y : ℤ) → Natural m x → Natural k y → Natural (m * k) (x *ℤ y)
+product-natural {m} {k} (pos x) (pos y) h j =
     let p : x ≤ m = omega (zs, h .most) in
     let q : y ≤ k = omega (zs, j .most) in
     record { least = omega zs; most = omega (zs, mul-le-mul p q) }
-product-within (negsuc x) y h j = absurd (h .least .le)
-product-within (pos x) (negsuc y) h j = absurd (j .least .le)
+product-natural (negsuc x) y h j = absurd (h .least .le)
+product-natural (pos x) (negsuc y) h j = absurd (j .least .le)
 
-pick-within : {m : ℕ} (x y : ℤ) (t : Bool) → Within m x → Within m y → Within m (cond t x y)
-pick-within x y true h j = h
-pick-within x y false h j = j
+pick-natural : {m : ℕ} (x y : ℤ) (t : Bool) → Natural m x → Natural m y → Natural m (cond t x y)
+pick-natural x y true h j = h
+pick-natural x y false h j = j
 
 -- ---- ends from 0 to m
 module _ {m : ℕ} {e : Ends} (u : UpTo m e) where
-  lower-within : Within m (e .lower)
-  lower-within = record { least = u .least; most = ≤-trans (u .ordered) (u .most) }
+  lower-natural : Natural m (e .lower)
+  lower-natural = record { least = u .least; most = ≤-trans (u .ordered) (u .most) }
 
-  upper-within : Within m (e .upper)
-  upper-within = record { least = ≤-trans (u .least) (u .ordered); most = u .most }
+  upper-natural : Natural m (e .upper)
+  upper-natural = record { least = ≤-trans (u .least) (u .ordered); most = u .most }
 
   pub upTo-size : Sized m e
   upTo-size =
       record {
-        lower = omega (zs, lower-within .least, lower-within .most, abs-parts (e .lower));
-        upper = omega (zs, upper-within .least, upper-within .most, abs-parts (e .upper));
+        lower = omega (zs, lower-natural .least, lower-natural .most, abs-parts (e .lower));
+        upper = omega (zs, upper-natural .least, upper-natural .most, abs-parts (e .upper));
       }
 
   pub wider-upTo : {k : ℕ} → m ≤ k → UpTo k e
@@ -62,17 +62,17 @@ sum-upTo u v =
       most = add-mono (u .most) (v .most);
     }
 
-scaled-upTo : {m k : ℕ} {e : Ends} (c : ℤ) → Within m c → UpTo k e → UpTo (m * k) (scaledBy c e)
+scaled-upTo : {m k : ℕ} {e : Ends} (c : ℤ) → Natural m c → UpTo k e → UpTo (m * k) (scaledBy c e)
 unfolding scaledBy
 scaled-upTo {e = e} c h u =
     let p = c *ℤ e .lower in
     let q = c *ℤ e .upper in
-    let l = product-within c (e .lower) h (lower-within u) in
-    let r = product-within c (e .upper) h (upper-within u) in
+    let l = product-natural c (e .lower) h (lower-natural u) in
+    let r = product-natural c (e .upper) h (upper-natural u) in
     record {
-      least = pick-within p q (leZ p q) l r .least;
+      least = pick-natural p q (leZ p q) l r .least;
       ordered = ≤-trans (smaller-le p q .0) (larger-ge p q .0);
-      most = pick-within q p (leZ p q) r l .most;
+      most = pick-natural q p (leZ p q) r l .most;
     }
 
 pub times-upTo : {m k : ℕ} {e : Ends} (c : ℕ) → c ≤ m → UpTo k e → UpTo (m * k) (scaledBy (pos c) e)
@@ -83,22 +83,22 @@ unfolding productOf hullOf
 product-upTo {a = a} {b = b} u v =
     let l = scaledBy (a .lower) b in
     let h = scaledBy (a .upper) b in
-    let low = scaled-upTo (a .lower) (lower-within u) v in
-    let high = scaled-upTo (a .upper) (upper-within u) v in
+    let low = scaled-upTo (a .lower) (lower-natural u) v in
+    let high = scaled-upTo (a .upper) (upper-natural u) v in
     record {
-      least = pick-within (l .lower) (h .lower) (leZ (l .lower) (h .lower)) (lower-within low) (lower-within high) .least;
+      least = pick-natural (l .lower) (h .lower) (leZ (l .lower) (h .lower)) (lower-natural low) (lower-natural high) .least;
       ordered = ≤-trans (≤-trans (smaller-le (l .lower) (h .lower) .0) (low .ordered)) (larger-ge (l .upper) (h .upper) .0);
-      most = pick-within (h .upper) (l .upper) (leZ (l .upper) (h .upper)) (upper-within high) (upper-within low) .most;
+      most = pick-natural (h .upper) (l .upper) (leZ (l .upper) (h .upper)) (upper-natural high) (upper-natural low) .most;
     }
 
 -- the difference of two numbers from 0 to m is from −m to m
-minus-size : {m : ℕ} (x y : ℤ) → Within m x → Within m y → natAbs (x -ℤ y) ≤ m
+minus-size : {m : ℕ} (x y : ℤ) → Natural m x → Natural m y → natAbs (x -ℤ y) ≤ m
 minus-size x y h j = omega (zs, h .least, h .most, j .least, j .most, sub-parts x y, abs-parts (x -ℤ y))
 
 pub difference-upTo-size : {m : ℕ} {a b : Ends} → UpTo m a → UpTo m b → Sized m (differenceOf a b)
 unfolding differenceOf
 difference-upTo-size {a = a} {b = b} u v =
     record {
-      lower = minus-size (a .lower) (b .upper) (lower-within u) (upper-within v);
-      upper = minus-size (a .upper) (b .lower) (upper-within u) (lower-within v);
+      lower = minus-size (a .lower) (b .upper) (lower-natural u) (upper-natural v);
+      upper = minus-size (a .upper) (b .lower) (upper-natural u) (lower-natural v);
     }

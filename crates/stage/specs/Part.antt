@@ -31,7 +31,8 @@ kelvinOf reference temperature = pos 2 *ℤ temperature +ℤ pos (reference .zer
 -- "Volume, ml: fields 1 x 2 x (Pa - Pi) x 2,732 / (101,300 (T + 2,732))", over its constants
 unfoldable pub volumeOf : Reference → ℕ → ℕ → ℕ → ℕ → ℤ → Ends
 volumeOf reference pump revolutions barometer depression temperature =
-    dividedBy (exactly (pos (pump * revolutions * (barometer - depression) * reference .temperature))) (pos (reference .pressure) *ℤ kelvinOf reference temperature)
+    dividedBy (exactly (pos (pump * revolutions * (barometer - depression) * reference .temperature)))
+    (pos (reference .pressure) *ℤ kelvinOf reference temperature)
 
 -- ---- dilution
 -- "G = 10 CO2 + wc CO + wh HC in bag units" (001, equations 8-12 and 8-13: 1/DF = G/Q)

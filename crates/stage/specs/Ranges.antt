@@ -1,14 +1,15 @@
--- What the stages ask of what they are given: the sheet's ranges (01, Bag sheet and figures, the table of values), and how large
--- the ends from the stages before can be.
+-- What the stages ask of what they are given: the ranges of the bag sheet's fields, and how large the ends from the stages before can be.
 use mathlib.Core.Path.{_≡_}
 use mathlib.Core.Bool.{true}
 use Prim.Native.Nat.{ℕ, _+_, _*_, _≤_}
-use lib.IntN.{ℤ, pos, negsuc}
+use lib.IntN.{ℤ, pos}
 use lib.Signed.{_≤ℤ_}
 use Rattle.arith.specs.declared.Ends.{Ends}
 use Rattle.arith.specs.Fitting.{Sized}
+use Rattle.bag.specs.Fields.{mostPumped, barometerRange, depressionRange, coldest, hottest, humidityRange, saturationRange, distanceRange, densityRange}
+use Rattle.bag.specs.Fields.{dRange, wRange, kRange, factorRange, fuelDensityRange}
 use Rattle.stage.specs.declared.Weights.{Weights}
-use Rattle.stage.specs.Part.{dilutionGood, humidityGood}
+use Rattle.stage.specs.Part.{qOf, dilutionGood, humidityGood}
 
 -- ends in order, from 0 to m
 pub record UpTo (m : ℕ) (e : Ends) : Type 0 where
@@ -51,34 +52,34 @@ largestRate = 7514321426920
 
 -- ---- what each stage asks
 pub record CombinationRanges (j : ℕ) (a : Ends) (k : ℕ) (b : Ends) (l : ℕ) (c : Ends) : Type 0 where
-  pub j-most : j ≤ 1000
-  pub k-most : k ≤ 1000
-  pub l-most : l ≤ 1000
+  pub j-most : j ≤ factorRange .most
+  pub k-most : k ≤ factorRange .most
+  pub l-most : l ≤ factorRange .most
   pub a-size : Sized largestRate a
   pub b-size : Sized largestRate b
   pub c-size : Sized largestRate c
 
 pub record VolumeRanges (pump revolutions barometer depression : ℕ) (temperature : ℤ) : Type 0 where
-  pub swept : pump * revolutions ≤ 1000000000
-  pub low : 80000 ≤ barometer
-  pub high : barometer ≤ 110000
-  pub inlet : depression ≤ 20000
-  pub cold : negsuc 399 ≤ℤ temperature
-  pub hot : temperature ≤ℤ pos 1500
+  pub swept : pump * revolutions ≤ mostPumped
+  pub low : barometerRange .least ≤ barometer
+  pub high : barometer ≤ barometerRange .most
+  pub inlet : depression ≤ depressionRange .most
+  pub cold : coldest ≤ℤ temperature
+  pub hot : temperature ≤ℤ hottest
 
 pub record GRanges (co2 co hc : Ends) (wc wh : ℕ) : Type 0 where
   pub co2-reading : UpTo largestReading co2
   pub co-reading : UpTo largestReading co
   pub hc-reading : UpTo largestReading hc
-  pub wc-most : wc ≤ 20
-  pub wh-most : wh ≤ 20
+  pub wc-most : wc ≤ wRange .most
+  pub wh-most : wh ≤ wRange .most
 
 pub record ConcentrationRanges (bag air g : Ends) (q : ℕ) : Type 0 where
   pub bag-size : Sized largestSigned bag
   pub air-size : Sized largestSigned air
   pub g-range : UpTo largestG g
   pub good : dilutionGood g q ≡ true
-  pub q-most : q ≤ 512000000
+  pub q-most : q ≤ qOf (dRange .most)
 
 pub record GasVolumeRanges (volume concentration : Ends) : Type 0 where
   pub volume-size : Sized largestVolume volume
@@ -86,13 +87,13 @@ pub record GasVolumeRanges (volume concentration : Ends) : Type 0 where
 
 pub record MassRanges (gas : Ends) (density : ℕ) : Type 0 where
   pub gas-size : Sized (4 * largestGasVolume) gas
-  pub density-most : density ≤ 2100000
+  pub density-most : density ≤ densityRange .most
 
 pub record HumidityRanges (humidity saturation barometer : ℕ) : Type 0 where
-  pub humidity-most : humidity ≤ 1000
-  pub saturation-most : saturation ≤ 12000
-  pub low : 80000 ≤ barometer
-  pub high : barometer ≤ 110000
+  pub humidity-most : humidity ≤ humidityRange .most
+  pub saturation-most : saturation ≤ saturationRange .most
+  pub low : barometerRange .least ≤ barometer
+  pub high : barometer ≤ barometerRange .most
 
 pub record KhRanges (humidity saturation barometer : ℕ) : Type 0 where
   pub ranges : HumidityRanges humidity saturation barometer
@@ -104,7 +105,7 @@ pub record NoxMassRanges (mass kh : Ends) : Type 0 where
 
 pub record RateRanges (mass : Ends) (distance : ℕ) : Type 0 where
   pub mass-size : Sized (4 * largestMass) mass
-  pub distance-least : 100 ≤ distance
+  pub distance-least : distanceRange .least ≤ distance
 
 pub record WeightedRanges (weights : Weights) (first second third : Ends) : Type 0 where
   pub whole : weights .first + weights .second + weights .third ≡ 100
@@ -113,12 +114,12 @@ pub record WeightedRanges (weights : Weights) (first second third : Ends) : Type
   pub third-size : Sized largestRate third
 
 pub record FuelRanges (k f1 f2 f3 density : ℕ) (hc co co2 : Ends) : Type 0 where
-  pub k-most : k ≤ 1500
-  pub f1-most : f1 ≤ 1000
-  pub f2-most : f2 ≤ 1000
-  pub f3-most : f3 ≤ 1000
-  pub light : 600 ≤ density
-  pub heavy : density ≤ 1000
+  pub k-most : k ≤ kRange .most
+  pub f1-most : f1 ≤ factorRange .most
+  pub f2-most : f2 ≤ factorRange .most
+  pub f3-most : f3 ≤ factorRange .most
+  pub light : fuelDensityRange .least ≤ density
+  pub heavy : density ≤ fuelDensityRange .most
   pub hc-size : Sized (10 * largestMass) hc
   pub co-size : Sized (10 * largestMass) co
   pub co2-size : Sized (10 * largestMass) co2

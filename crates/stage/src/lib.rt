@@ -9,10 +9,13 @@ use arith::whole;
 ghost use mathlib.Core.Path.{_≡_};
 ghost use Prim.Native.Nat.{_<_, _≤_, _^_};
 ghost use lib.IntN.{pos};
-ghost use Rattle.stage.specs.Part.{gtr, kelvinOf, volumeOf, gOf, qOf, dilutionGood, concentrationOf, gasVolumeOf, massOf, vapourOf, dryOf, humidityGood, khOf, noxMassOf, rateOf};
+ghost use Rattle.bag.specs.Fields.{mostLimit, dRange};
+ghost use Rattle.stage.specs.Part.{gtr, kelvinOf, volumeOf, gOf, qOf, dilutionGood, concentrationOf, gasVolumeOf, massOf};
+ghost use Rattle.stage.specs.Part.{vapourOf, dryOf, humidityGood, khOf, noxMassOf, rateOf};
 ghost use Rattle.stage.specs.Combination.{combinationOf};
 ghost use Rattle.stage.specs.Test.{weightsOf, weightedOf, fuelOf, verdictOf};
-ghost use Rattle.stage.specs.Ranges.{CombinationRanges, VolumeRanges, GRanges, ConcentrationRanges, GasVolumeRanges, MassRanges, HumidityRanges, KhRanges, NoxMassRanges, RateRanges, WeightedRanges, FuelRanges};
+ghost use Rattle.stage.specs.Ranges.{CombinationRanges, VolumeRanges, GRanges, ConcentrationRanges, GasVolumeRanges, MassRanges};
+ghost use Rattle.stage.specs.Ranges.{HumidityRanges, KhRanges, NoxMassRanges, RateRanges, WeightedRanges, FuelRanges};
 
 // A product of the sheet's numbers, as a signed one.
 fn signed(n: u64) -> i64
@@ -64,7 +67,7 @@ pub fn g_of(co2: Ends, co: Ends, hc: Ends, wc: u32, wh: u32) -> Ends
 }
 
 pub fn q_of(d: u32) -> u32
-    requires { ⌜ d ≤ 200 ⌝ }
+    requires { ⌜ d ≤ dRange .most ⌝ }
     ensures { λ r. ⌜ r ≡ qOf d ⌝ }
 {
     2560000 * d
@@ -224,7 +227,7 @@ pub enum Verdict {
 
 // How a weighted gas stands to its limit. The limit comes as the sheet has it, unsigned and up to 10^12, and is made signed here once.
 pub fn verdict_of(rate: Ends, limit: u64) -> Verdict
-    requires { ⌜ limit ≤ 1000000000000 ⌝ }
+    requires { ⌜ limit ≤ mostLimit ⌝ }
     ensures { λ r. ⌜ r ≡ verdictOf rate limit ⌝ }
 {
     let most = signed(limit);

@@ -7,15 +7,18 @@ use Rattle.bag.proofs.judge.Tie as tie
 returns : tie.Need-returns
 unfolding sheetChecks
 returns c =
-    let test = c .before .before in
+    let class = c .before in
+    let test = class .before in
     let first = test .before in
+    let second = first .before in
+    let third = second .before in
     simp (
       c .check .ensures,
-      c .before .class-holds .ensures,
+      class .class-holds .ensures,
       test .test-values .ensures,
       first .part-values2 .ensures,
-      first .before .part-values .ensures,
-      first .before .before .third-values .ensures,
+      second .part-values .ensures,
+      third .third-values .ensures,
       checkedAll-append,
     )
 

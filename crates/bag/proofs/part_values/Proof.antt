@@ -6,29 +6,38 @@ use Rattle.bag.specs.Sheet.{valueChecks}
 use Rattle.bag.proofs.part_values.Statement.{statement}
 use Rattle.bag.proofs.part_values.Tie as tie
 
+-- the checks stand last to first, so the first is the last place
 returns : tie.Need-returns
 unfolding valueChecks
 returns c =
-    let volume = c .before .before in
-    let warmth = volume .before .before .before in
+    let revolutions = c .before in
+    let volume = revolutions .before in
+    let barometer = volume .before in
+    let depression = barometer .before in
+    let warmth = depression .before in
     let told = warmth .before in
-    let distance = told .before .before .before in
-    let start = distance .before .before .before .before .before in
+    let humidity = told .before in
+    let saturation = humidity .before in
+    let distance = saturation .before in
+    let hc = distance .before in
+    let co = hc .before in
+    let nox = co .before in
+    let co2 = nox .before in
     simp (
-      c .value11 .ensures,
-      c .before .value10 .ensures,
+      c .value7 .ensures,
+      revolutions .value6 .ensures,
       volume .pumped .ensures,
-      volume .before .value9 .ensures,
-      volume .before .before .value8 .ensures,
+      barometer .value5 .ensures,
+      depression .value4 .ensures,
       warmth .temperature .ensures,
-      told .before .value7 .ensures,
-      told .before .before .value6 .ensures,
-      distance .value5 .ensures,
-      distance .before .value4 .ensures,
-      distance .before .before .value3 .ensures,
-      distance .before .before .before .value2 .ensures,
-      distance .before .before .before .before .value .ensures,
-      toZ-ofZ w32 (start .args .p .temperature) (omega (arith, told .struct-told)),
+      humidity .value3 .ensures,
+      saturation .value2 .ensures,
+      distance .value .ensures,
+      hc .density4 .ensures,
+      co .density3 .ensures,
+      nox .density2 .ensures,
+      co2 .density .ensures,
+      toZ-ofZ w32 (co2 .before .args .p .temperature) (omega (arith, told .struct-told)),
     )
 
 pub part-values-spec : {M : Type 1} → statement M

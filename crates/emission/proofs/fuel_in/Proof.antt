@@ -8,7 +8,17 @@ fuel-requires : tie.Need-fuel-requires
 fuel-requires c κs =
     let f = c .pre .0 in
     let w = c .pre .1 in
-    record { k-most = f .k; f1-most = f .hc; f2-most = f .co; f3-most = f .co2; light = f .light; heavy = f .heavy; hc-size = w HC; co-size = w CO; co2-size = w CO2 }
+    record {
+      k-most = f .k .1;
+      f1-most = f .hc .1;
+      f2-most = f .co .1;
+      f3-most = f .co2 .1;
+      light = f .density .0;
+      heavy = f .density .1;
+      hc-size = w HC;
+      co-size = w CO;
+      co2-size = w CO2;
+    }
 
 pub fuel-in-spec : {M : Type 1} → statement M
 fuel-in-spec = tie.close (tie.spec fuel-requires (λ c. search needs))

@@ -8,7 +8,20 @@ use Rattle.emission.proofs.judge_late.Tie as tie
 returns : tie.Need-returns
 unfolding lateChecks
 returns c =
-    simp (c .dilution-check2 .ensures, c .before .dilution-check .ensures, c .before .before .third-dilution .ensures, c .before .before .before .humidity-check2 .ensures, c .before .before .before .before .humidity-check .ensures, c .before .before .before .before .before .third-humidity .ensures, checkedAll-append)
+    let rich-2 = c .before in
+    let rich-3 = rich-2 .before in
+    let humid-1 = rich-3 .before in
+    let humid-2 = humid-1 .before in
+    let humid-3 = humid-2 .before in
+    simp (
+      c .dilution-check2 .ensures,
+      rich-2 .dilution-check .ensures,
+      rich-3 .third-dilution .ensures,
+      humid-1 .humidity-check2 .ensures,
+      humid-2 .humidity-check .ensures,
+      humid-3 .third-humidity .ensures,
+      checkedAll-append,
+    )
 
 pub judge-late-spec : {M : Type 1} → statement M
 judge-late-spec =

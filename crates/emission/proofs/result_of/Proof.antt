@@ -1,35 +1,21 @@
 -- `emission::result_of` meets its contract. Assumes nothing.
 use mathlib.Core.Path.{_≡_}
-use Rattle.stage.proofs.Sizes.{weights-whole}
-use Rattle.stage.specs.Test.{weightsOf}
 use Rattle.emission.specs.Test.{weightedIn, resultOf}
-use Rattle.emission.specs.Room.{WeighRanges}
-use Rattle.emission.proofs.Ranges.{weighted-sizes}
+use Rattle.emission.proofs.Ranges.{weigh-ranges, weighted-sizes}
 use Rattle.emission.proofs.result_of.Statement.{statement}
 use Rattle.emission.proofs.result_of.Tie as tie
 
--- the class's weights are a whole
-weigh : (s : tie.Start) → WeighRanges (weightsOf (s .args .s .class)) (s .args .parts .first .rate) (s .args .parts .second .rate) (s .args .parts .third .rate)
-weigh s =
-    let t = s .pre .tested .class in
-    record {
-      whole = weights-whole (s .args .s .class) (t .0) (t .1);
-      first-sizes = s .pre .first-sizes;
-      second-sizes = s .pre .second-sizes;
-      third-sizes = s .pre .third-sizes;
-    }
-
-weighted-is : (c : tie.After-weighted-gases) → c .weighted-gases .result ≡ weightedIn (c .before .before .args .s) (c .before .before .args .parts)
+weighted-is : (c : tie.After-weighted-gases) → let a = c .before .before .args in c .weighted-gases .result ≡ weightedIn (a .s) (a .parts)
 weighted-is c = rw (c .before .weights-of .ensures) at (c .weighted-gases .ensures)
 
 weighted-gases-requires : tie.Need-weighted-gases-requires
-weighted-gases-requires c κs = rw (c .weights-of .ensures) (weigh (c .before))
+weighted-gases-requires c κs = rw (c .weights-of .ensures) (weigh-ranges (c .before .pre))
 
 fuel-in-requires : tie.Need-fuel-in-requires
 fuel-in-requires c κs =
-    let s = c .before .before .before in
-    let t = s .pre .tested in
-    (record { k = t .k .1; hc = t .hcFactor; co = t .coFactor; co2 = t .co2Factor; light = t .fuelDensity .0; heavy = t .fuelDensity .1 }, rw (weighted-is (c .before)) (weighted-sizes (weigh s)))
+    let weighted = c .before in
+    let r = weighted .before .before .pre in
+    (r .tested .fuel, rw (weighted-is weighted) (weighted-sizes r))
 
 returns : tie.Need-returns
 unfolding resultOf
@@ -45,6 +31,6 @@ result-of-spec =
     (tie.spec
     (λ c κs. c .pre .tested .class)
     weighted-gases-requires
-    (λ c κs. c .before .before .pre .tested .limit)
+    (λ c κs. c .before .before .pre .tested .limits)
     fuel-in-requires
     returns)

@@ -6,7 +6,7 @@ use Rattle.bag.specs.Sheet.{judgeSheet}
 use Rattle.bag.specs.Sound.{Sound}
 use Rattle.bag.proofs.Sound.{accepted-sound}
 use Rattle.emission.specs.declared.Read.the-variants.{Units}
-use Rattle.emission.specs.Room.{PartsRanges}
+use Rattle.emission.specs.Ranges.{PartsRanges}
 use Rattle.emission.specs.Test.{readIn, judgeLate, readAnswer, testAnswer}
 use Rattle.emission.proofs.Ranges.{late-ranges, parts-ranges, result-ranges}
 use Rattle.emission.proofs.test.Statement.{statement}

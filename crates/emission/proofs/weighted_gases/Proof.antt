@@ -2,7 +2,6 @@
 use Rattle.reading.specs.Gas.{HC, CO, NOx, CO2}
 use Rattle.part.specs.Part.{each}
 use Rattle.emission.specs.Test.{weightedGases}
-use Rattle.emission.proofs.Ranges.{weigh-ranges}
 use Rattle.emission.proofs.weighted_gases.Statement.{statement}
 use Rattle.emission.proofs.weighted_gases.Tie as tie
 
@@ -14,8 +13,8 @@ pub weighted-gases-spec : {M : Type 1} → statement M
 weighted-gases-spec =
     tie.close
     (tie.spec
-    (λ c κs. weigh-ranges (c .pre) HC)
-    (λ c κs. weigh-ranges (c .before .pre) CO)
-    (λ c κs. weigh-ranges (c .before .before .pre) NOx)
-    (λ c κs. weigh-ranges (c .before .before .before .pre) CO2)
+    (λ c κs. c .pre HC)
+    (λ c κs. c .before .pre CO)
+    (λ c κs. c .before .before .pre NOx)
+    (λ c κs. c .before .before .before .pre CO2)
     returns)

@@ -8,7 +8,7 @@ g-of-requires : tie.Need-g-of-requires
 g-of-requires c κs =
     let t = c .pre .0 in
     let b = c .pre .1 in
-    record { co2-reading = b CO2; co-reading = b CO; hc-reading = b HC; wc-most = t .wc-most; wh-most = t .wh-most }
+    record { co2-reading = b CO2; co-reading = b CO; hc-reading = b HC; wc-most = t .wc .1; wh-most = t .wh .1 }
 
 pub g-in-spec : {M : Type 1} → statement M
 g-in-spec = tie.close (tie.spec g-of-requires (λ c. search needs))

@@ -11,8 +11,15 @@ use Rattle.part.proofs.mass_in.Tie as tie
 abbrev start : tie.After-masses → tie.Start
 start c = c .before .before .before .before
 
-dry-is : (c : tie.After-masses) → c .masses .result ≡ massesOf (volumeIn (start c .args .p)) (start c .args .sides) (gIn (start c .args .triple) (start c .args .sides .bag)) (qOf (start c .args .triple .d)) (start c .args .p .density)
-dry-is c = rw (c .before .volume-in .ensures, c .before .before .before .g-in .ensures, c .before .before .q-of .ensures) at (c .masses .ensures)
+dry-is :
+    (c : tie.After-masses) →
+    let a = start c .args in
+    c .masses .result ≡ massesOf (volumeIn (a .p)) (a .sides) (gIn (a .triple) (a .sides .bag)) (qOf (a .triple .d)) (a .p .density)
+dry-is c =
+    let volume = c .before in
+    let q = volume .before in
+    let g = q .before in
+    rw (volume .volume-in .ensures, g .g-in .ensures, q .q-of .ensures) at (c .masses .ensures)
 
 masses-requires : tie.Need-masses-requires
 masses-requires c κs =
@@ -21,7 +28,7 @@ masses-requires c κs =
 corrected-for-requires : tie.Need-corrected-for-requires
 corrected-for-requires c κs =
     let r = start (c .before) .pre in
-    rw (dry-is (c .before), c .kh .ensures) (masses-sizes (masses-ranges r), kh-size (kh-ranges r))
+    rw (dry-is (c .before), c .kh .ensures) (masses-sizes r, kh-size (kh-ranges r))
 
 returns : tie.Need-returns
 unfolding massIn

@@ -1,21 +1,23 @@
 -- `part::masses` meets its contract: the same stages for each gas. Assumes nothing.
 use Rattle.reading.specs.Gas.{HC, CO, NOx, CO2}
 use Rattle.part.specs.Part.{each, massesOf}
-use Rattle.part.proofs.Sizes.{gas-ranges}
 use Rattle.part.proofs.masses.Statement.{statement}
 use Rattle.part.proofs.masses.Tie as tie
 
 returns : tie.Need-returns
 unfolding each massesOf
 returns c =
-    rw (c .before .before .before .gas-mass .ensures, c .before .before .gas-mass2 .ensures, c .before .gas-mass3 .ensures, c .gas-mass4 .ensures)
+    let nox = c .before in
+    let co = nox .before in
+    let hc = co .before in
+    rw (hc .gas-mass .ensures, co .gas-mass2 .ensures, nox .gas-mass3 .ensures, c .gas-mass4 .ensures)
 
 pub masses-spec : {M : Type 1} → statement M
 masses-spec =
     tie.close
     (tie.spec
-    (λ c κs. gas-ranges (c .before .before .pre) HC)
-    (λ c κs. gas-ranges (c .before .before .before .pre) CO)
-    (λ c κs. gas-ranges (c .before .before .before .before .pre) NOx)
-    (λ c κs. gas-ranges (c .before .before .before .before .before .pre) CO2)
+    (λ c κs. c .before .before .pre HC)
+    (λ c κs. c .before .before .before .pre CO)
+    (λ c κs. c .before .before .before .before .pre NOx)
+    (λ c κs. c .before .before .before .before .before .pre CO2)
     returns)

@@ -1,14 +1,12 @@
 -- `part::part_of` meets its contract. Assumes nothing.
 use borrow.Author.Needs.{needs}
 use Rattle.part.specs.Part.{partOf}
-use Rattle.part.proofs.Sizes.{mass-in-sizes}
+use Rattle.part.proofs.Sizes.{rates-ranges}
 use Rattle.part.proofs.part_of.Statement.{statement}
 use Rattle.part.proofs.part_of.Tie as tie
 
 rates-requires : tie.Need-rates-requires
-rates-requires c κs =
-    let s = c .before .before in
-    (rw (c .before .mass-in .ensures) (mass-in-sizes (s .pre)), s .pre .ranged .distance .0)
+rates-requires c κs = rw (c .before .mass-in .ensures) (rates-ranges (c .before .before .pre))
 
 returns : tie.Need-returns
 unfolding partOf

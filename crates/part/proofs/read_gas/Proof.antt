@@ -1,9 +1,15 @@
 -- `part::read_gas` meets its contract: the arm that is taken is the case of the message's units. Assumes nothing.
-use mathlib.Core.Path.{sym, _∙_}
+use mathlib.Core.Path.{_≡_, sym, _∙_}
 use borrow.Author.Needs.{needs}
+use Rattle.reading.specs.declared.Worth.the-variants.{Units}
+use Rattle.reading.specs.Units.{unitsOf}
 use Rattle.part.specs.Read.{readGas}
 use Rattle.part.proofs.read_gas.Statement.{statement}
 use Rattle.part.proofs.read_gas.Tie as tie
+
+-- ---- what the messages are worth
+bag-read : (c : tie.After-in-bag) → let a = c .before .before .before .args in unitsOf (a .bag) ≡ Units (c .in-bag .given .0 .0)
+bag-read c = sym (c .before .before .convert .ensures) ∙ c .in-bag .given .1
 
 returns : tie.Need-returns
 unfolding readGas
@@ -12,21 +18,15 @@ returns c = simp (sym (c .before .before .convert .ensures) ∙ c .enum-told .gi
 returns-2 : tie.Need-returns-2
 unfolding readGas
 returns-2 c =
-    let b = c .before .before .before .before in
-    simp (
-      sym (b .before .before .convert .ensures) ∙ b .in-bag .given .1,
-      sym (c .before .before .convert2 .ensures) ∙ c .enum-told2 .given .1,
-    )
+    let air = c .before .before in
+    simp (bag-read (air .before .before), sym (air .convert2 .ensures) ∙ c .enum-told2 .given .1)
 
 returns-3 : tie.Need-returns-3
 unfolding readGas
 returns-3 c =
-    let a = c .before in
-    let b = a .before .before .before .before in
-    simp (
-      sym (b .before .before .convert .ensures) ∙ b .in-bag .given .1,
-      sym (a .before .before .convert2 .ensures) ∙ a .in-air .given .1,
-    )
+    let in-air = c .before in
+    let air = in-air .before .before in
+    simp (bag-read (air .before .before), sym (air .convert2 .ensures) ∙ in-air .in-air .given .1)
 
 pub read-gas-spec : {M : Type 1} → statement M
 read-gas-spec =

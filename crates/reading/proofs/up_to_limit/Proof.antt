@@ -7,7 +7,7 @@ use borrow.Author.Needs.{needs}
 use borrow.Author.Tests.{le-leb}
 use Rattle.arith.specs.Stages.{exactly}
 use Rattle.arith.proofs.Machine.{back}
-use Rattle.reading.specs.declared.Reading.the-variants.{Units, Unusable}
+use Rattle.reading.specs.declared.Worth.the-variants.{Units, Unusable}
 use Rattle.reading.proofs.Scaling.{past}
 use Rattle.reading.proofs.up_to_limit.Statement.{statement}
 use Rattle.reading.proofs.up_to_limit.Tie as tie

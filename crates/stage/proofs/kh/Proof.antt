@@ -23,8 +23,10 @@ sub-signed c = omega (arith, humid (c .before .before .pre))
 divisor-is :
     (c : tie.After-signed) →
     let a = c .before .before .before .args in
-    toZ w64 (ofZ w64 (c .signed .result)) ≡ pos (1352030 * dryOf (a .humidity) (a .saturation) (a .barometer) - 20434190 * vapourOf (a .humidity) (a .saturation))
-divisor-is c = handed (c .signed .result) (c .signed .ok) (simp (c .signed .ensures, c .before .dry .ensures, c .before .before .vapour .ensures))
+    toZ w64 (ofZ w64 (c .signed .result))
+    ≡ pos (1352030 * dryOf (a .humidity) (a .saturation) (a .barometer) - 20434190 * vapourOf (a .humidity) (a .saturation))
+divisor-is c =
+    handed (c .signed .result) (c .signed .ok) (simp (c .signed .ensures, c .before .dry .ensures, c .before .before .vapour .ensures))
 
 number-is :
     (c : tie.After-signed2) →
@@ -42,4 +44,11 @@ unfolding khOf
 returns c = simp (c .divided .ensures, c .before .exactly .ensures, number-is (c .before .before), divisor-is (c .before .before .before))
 
 pub kh-spec : {M : Type 1} → statement M
-kh-spec = tie.close (tie.spec (λ c κs. tt) (λ c κs. search needs) (λ c. search needs) mul-signed-2 sub-signed (λ c κs. search needs) (λ c. search needs) (λ c κs. search needs) (λ c κs. tt) divided-requires returns)
+kh-spec =
+    tie.close
+    (tie.spec
+    (λ c κs. tt) (λ c κs. search needs)
+    (λ c. search needs) mul-signed-2 sub-signed (λ c κs. search needs)
+    (λ c. search needs) (λ c κs. search needs) (λ c κs. tt)
+    divided-requires
+    returns)

@@ -14,14 +14,17 @@ use Rattle.stage.proofs.verdict_of.Tie as tie
 limit-is : (c : tie.After-signed) → toZ w64 (ofZ w64 (c .signed .result)) ≡ pos (c .before .args .limit)
 limit-is c = handed (c .signed .result) (c .signed .ok) (c .signed .ensures)
 
-upper-is : (c : tie.After-struct-told) → let u = c .before .before .before .args .rate .upper in toZ w64 (ofZ w64 u) ≡ u
-upper-is c = back (c .before .before .before .args .rate .upper) (c .struct-told .given .1 .0 .1)
+abbrev start : tie.After-struct-told → tie.Start
+start c = c .before .before .before
 
-lower-is : (c : tie.After-struct-told2) → let l = c .before .before .before .before .before .before .args .rate .lower in toZ w64 (ofZ w64 l) ≡ l
-lower-is c = back (c .before .before .before .before .before .before .args .rate .lower) (c .struct-told2 .given .0 .1)
+upper-is : (c : tie.After-struct-told) → let u = start c .args .rate .upper in toZ w64 (ofZ w64 u) ≡ u
+upper-is c = back (start c .args .rate .upper) (c .struct-told .given .1 .0 .1)
+
+lower-is : (c : tie.After-struct-told2) → let l = start (c .before .before .before) .args .rate .lower in toZ w64 (ofZ w64 l) ≡ l
+lower-is c = back (start (c .before .before .before) .args .rate .lower) (c .struct-told2 .given .0 .1)
 
 -- the first test failed
-over : (c : tie.Else1) → let a = c .before .before .before .before .args in leZ (a .rate .upper) (pos (a .limit)) ≡ false
+over : (c : tie.Else1) → let a = start (c .before) .args in leZ (a .rate .upper) (pos (a .limit)) ≡ false
 over c = simp (upper-is (c .before), limit-is (c .before .before .before)) at (c .if1 .left)
 
 returns : tie.Need-returns

@@ -50,7 +50,21 @@ unfolding volumeOf
 returns c =
     let s = c .before .before .before .before in
     let n = c .before .before .before .signed in
-    simp (c .divided .ensures, c .before .before .exactly .ensures, handed (n .result) (n .ok) (n .ensures), kelvin-is (c .before), toZ-ofZ, divisor-fits s)
+    simp (
+      c .divided .ensures,
+      c .before .before .exactly .ensures,
+      handed (n .result) (n .ok) (n .ensures),
+      kelvin-is (c .before),
+      toZ-ofZ,
+      divisor-fits s,
+    )
 
 pub volume-spec : {M : Type 1} → statement M
-volume-spec = tie.close (tie.spec (λ c. search needs) (λ c. search needs) (λ c. search needs) mul-swept-2 mul-signed signed-requires (λ c κs. tt) (λ c κs. tt) mul-divided divided-requires returns)
+volume-spec =
+    tie.close
+    (tie.spec
+    (λ c. search needs) (λ c. search needs) (λ c. search needs)
+    mul-swept-2 mul-signed signed-requires
+    (λ c κs. tt) (λ c κs. tt)
+    mul-divided divided-requires
+    returns)

@@ -1,4 +1,4 @@
--- What the stages of a part ask, from what the accepted sheet tells.
+-- What the stages of a part ask, from what an accepted sheet and its readings tell.
 use mathlib.Core.Path.{_≡_}
 use mathlib.Core.Bool.{true, cond}
 use Prim.Native.Nat.{ℕ, _≤_}
@@ -8,10 +8,10 @@ use Rattle.reading.specs.Gas.{Gas, isNOx}
 use Rattle.bag.specs.declared.Part.{Part}
 use Rattle.bag.specs.declared.Triple.{Triple}
 use Rattle.bag.specs.declared.Densities.{Densities}
+use Rattle.bag.specs.Fields.{densityRange}
 use Rattle.bag.specs.Sheet.{densityAt}
-use Rattle.bag.specs.Sound.{Ranged}
-use Rattle.stage.specs.Ranges.{UpTo, ConcentrationRanges, largestReading, largestG, largestVolume, largestMass, largestNoxMass}
-use Rattle.stage.specs.Part.{dilutionGood}
+use Rattle.bag.specs.Sound.{Ranged, RangedTriple}
+use Rattle.stage.specs.Ranges.{UpTo, ConcentrationRanges, RateRanges, largestReading, largestVolume, largestMass, largestNoxMass}
 use Rattle.part.specs.declared.Gases.{Gases}
 use Rattle.part.specs.declared.Sides.{Sides}
 use Rattle.part.specs.Part.{endsAt, diluted, dryEnough}
@@ -20,26 +20,20 @@ use Rattle.part.specs.Part.{endsAt, diluted, dryEnough}
 abbrev pub ReadingSizes : Gases → Type 0
 ReadingSizes g = (gas : Gas) → UpTo largestReading (endsAt gas g)
 
-pub record TripleRanges (triple : Triple) : Type 0 where
-  pub d-most : triple .d ≤ 200
-  pub wc-most : triple .wc ≤ 20
-  pub wh-most : triple .wh ≤ 20
-
+-- ---- what a stage asks of a gas, and of every gas
 pub record GasRanges (volume bag air g : Ends) (q density : ℕ) : Type 0 where
   pub volume-size : Sized largestVolume volume
   pub ranges : ConcentrationRanges bag air g q
-  pub density-most : density ≤ 2100000
+  pub density-most : density ≤ densityRange .most
 
-pub record MassesRanges (volume : Ends) (sides : Sides) (g : Ends) (q : ℕ) (density : Densities) : Type 0 where
-  pub volume-size : Sized largestVolume volume
-  pub bag-sizes : ReadingSizes (sides .bag)
-  pub air-sizes : ReadingSizes (sides .air)
-  pub g-range : UpTo largestG g
-  pub good : dilutionGood g q ≡ true
-  pub q-most : q ≤ 512000000
-  pub density-most : (gas : Gas) → densityAt gas density ≤ 2100000
+abbrev pub MassesRanges : Ends → Sides → Ends → ℕ → Densities → Type 0
+MassesRanges volume sides g q density =
+    (gas : Gas) → GasRanges volume (endsAt gas (sides .bag)) (endsAt gas (sides .air)) g q (densityAt gas density)
 
--- masses before Kh, and after
+abbrev pub RatesRanges : Gases → ℕ → Type 0
+RatesRanges mass distance = (gas : Gas) → RateRanges (endsAt gas mass) distance
+
+-- ---- masses before Kh, and after
 abbrev pub DryMassSizes : Gases → Type 0
 DryMassSizes g = (gas : Gas) → Sized largestMass (endsAt gas g)
 
@@ -49,8 +43,9 @@ largestMassOf gas = cond (isNOx gas) largestNoxMass largestMass
 abbrev pub MassSizes : Gases → Type 0
 MassSizes g = (gas : Gas) → Sized (largestMassOf gas) (endsAt gas g)
 
+-- ---- a part past refusals 11 to 14
 pub record PartRanges (triple : Triple) (p : Part) (sides : Sides) : Type 0 where
-  pub triple-ranges : TripleRanges triple
+  pub triple-ranged : RangedTriple triple
   pub ranged : Ranged p
   pub bag-sizes : ReadingSizes (sides .bag)
   pub air-sizes : ReadingSizes (sides .air)
