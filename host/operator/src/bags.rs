@@ -1,5 +1,6 @@
 //! The bag sheet.
 
+use crate::field::{Form, Key, Range};
 use crate::sheet::{Section, Sheet};
 use ylhovesko::bags::{Fuel, Gases, Part, Sheet as BagSheet, Triple};
 
@@ -9,12 +10,58 @@ pub const KIND: &str = "bags";
 /// As a sheet's keys name them, in the paper's order.
 pub const GAS_KEYS: [&str; 4] = ["hc", "co", "nox", "co2"];
 
-const TEST_KEYS: [&str; 10] =
-    ["sheet", "class", "triple d", "triple wc", "triple wh", "fuel k", "fuel hc", "fuel co", "fuel co2", "fuel density"];
-const PART_KEYS: [&str; 8] = ["pump", "revolutions", "barometer", "depression", "temperature", "humidity", "saturation", "distance"];
+const CLASS: Range = Range::of(1, 3, "");
+/// The headings of the parts, in their order.
+const PARTS: [&str; 3] = ["part 1", "part 2", "part 3"];
 
-fn gas_keys(word: &'static str) -> impl Iterator<Item = String> {
-    GAS_KEYS.into_iter().map(move |gas| format!("{word} {gas}"))
+/// The fields 1 to 8 of a part, in this order.
+const PART_FIELDS: [(&str, Range); 8] = [
+    ("pump", Range::of(100, 20_000, "ml a revolution")),
+    ("revolutions", Range::of(1, 100_000, "")),
+    ("barometer", Range::of(80_000, 110_000, "Pa")),
+    ("depression", Range::of(0, 20_000, "Pa")),
+    ("temperature", Range::of(-400, 1_500, "in 0.1 degree C")),
+    ("humidity", Range::of(0, 1_000, "in 0.1 percent")),
+    ("saturation", Range::of(0, 12_000, "Pa")),
+    ("distance", Range::of(100, 100_000, "m")),
+];
+/// Field 9, for each gas.
+const DENSITY: Range = Range::of(1, 2_100_000, "mg per cubic metre");
+/// Field 10.
+const TRIPLE: [(&str, Range); 3] = [
+    ("triple d", Range::of(100, 200, "in tenths")),
+    ("triple wc", Range::of(0, 20, "in tenths")),
+    ("triple wh", Range::of(0, 20, "in tenths")),
+];
+const CARBON: Range = Range::of(0, 1_000, "in 1/1,000");
+/// Field 11.
+const FUEL: [(&str, Range); 5] = [
+    ("fuel k", Range::of(1, 1_500, "in 1/10,000")),
+    ("fuel hc", CARBON),
+    ("fuel co", CARBON),
+    ("fuel co2", CARBON),
+    ("fuel density", Range::of(600, 1_000, "g/l")),
+];
+/// Field 12, for each gas.
+const LIMIT: Range = Range::of(0, 1_000_000_000_000, "micrograms/km");
+
+fn whole(fields: &[(&str, Range)]) -> Vec<Key> {
+    fields.iter().map(|(name, range)| Key::needed(name, Form::Whole(*range))).collect()
+}
+
+fn of_each_gas(word: &str, form: Form) -> Vec<Key> {
+    GAS_KEYS.map(|gas| Key::needed(&format!("{word} {gas}"), form)).into()
+}
+
+fn test_keys() -> Vec<Key> {
+    let first = [Key::needed("sheet", Form::Kind), Key::needed("class", Form::Whole(CLASS))];
+    first.into_iter().chain(whole(&TRIPLE)).chain(whole(&FUEL)).chain(of_each_gas("limit", Form::Whole(LIMIT))).collect()
+}
+
+fn part_keys() -> Vec<Key> {
+    let densities = of_each_gas("density", Form::Whole(DENSITY));
+    let readings = ["bag", "air"].into_iter().flat_map(|side| of_each_gas(side, Form::Reading));
+    whole(&PART_FIELDS).into_iter().chain(densities).chain(readings).collect()
 }
 
 fn of_gases<T>(word: &str, value: impl Fn(&str) -> T) -> Gases<T> {
@@ -24,11 +71,8 @@ fn of_gases<T>(word: &str, value: impl Fn(&str) -> T) -> Gases<T> {
 /// The bag sheet for the core to judge, and what in it is not of a bag sheet.
 pub fn bag_sheet_of(sheet: Sheet) -> (BagSheet, Vec<String>) {
     let mut sheet = sheet.of_kind(KIND);
-    sheet.note_sections(|section| (1..=3).any(|number| is_part(section, number)));
-    let test_keys: Vec<String> = TEST_KEYS.map(str::to_string).into_iter().chain(gas_keys("limit")).collect();
-    let readings = ["density", "bag", "air"].into_iter().flat_map(gas_keys);
-    let part_keys: Vec<String> = PART_KEYS.map(str::to_string).into_iter().chain(readings).collect();
-    sheet.note_keys(&test_keys, &part_keys);
+    sheet.note_sections(&PARTS);
+    sheet.note_keys(&test_keys(), &part_keys());
     let head = &sheet.head;
     let mut parts = [Part::default(); 3];
     for (part, section) in parts.iter_mut().zip(&sheet.sections) {
@@ -45,13 +89,9 @@ pub fn bag_sheet_of(sheet: Sheet) -> (BagSheet, Vec<String>) {
     (bags, sheet.notes)
 }
 
-fn is_part(section: &Section, number: u32) -> bool {
-    section.heading == format!("part {number}")
-}
-
 /// How many parts there are; 0, which no class has, where they are not numbered 1, 2, 3 in this order, so that none is taken for another.
 fn count_of(sections: &[Section]) -> u32 {
-    let in_order = (1..).zip(sections).all(|(number, section)| is_part(section, number));
+    let in_order = sections.iter().map(|section| section.heading.as_str()).eq(PARTS.into_iter().take(sections.len()));
     u32::try_from(sections.len()).ok().filter(|_| in_order).unwrap_or(0)
 }
 

@@ -5,6 +5,7 @@
 mod arguments;
 mod bags;
 mod commands;
+mod field;
 mod files;
 mod help;
 mod picture;

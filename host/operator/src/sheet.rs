@@ -3,6 +3,7 @@
 //! A value that is missing, malformed or given twice is never guessed. It is read as one that lies outside the range of every field of its type, so
 //! that the core refuses it and says where it stands. What a sheet holds beside its values is named in a note.
 
+use crate::field::{Form, Key};
 use ylhovesko::bags::Reading;
 
 /// No unsigned field of a sheet reaches this.
@@ -55,18 +56,34 @@ impl Section {
         self.value(key).and_then(reading_of).unwrap_or(Reading::NOT_FITTED)
     }
 
-    /// Says which lines name a key that is not among the known ones, or one that stood before.
-    fn notes(&self, known: &[String]) -> Vec<String> {
-        let mut notes = Vec::new();
-        for (i, entry) in self.entries.iter().enumerate() {
-            let Entry { key, line, .. } = entry;
-            if !known.contains(key) {
-                notes.push(format!("line {line}: unknown key {}", quoted(key)));
-            } else if let Some(first) = self.entries[..i].iter().find(|other| other.key == *key) {
-                notes.push(format!("line {line}: key {} stands in line {} already", quoted(key), first.line));
-            }
-        }
+    /// Says which lines name a key that is not among the known ones, or one that stood before, or a value that is none of its key's; and which
+    /// keys no line names.
+    fn notes(&self, known: &[Key]) -> Vec<String> {
+        let mut notes: Vec<String> = (0..self.entries.len()).filter_map(|at| self.note(known, at)).collect();
+        let missing = known.iter().filter(|key| key.needed && !self.names(&key.name));
+        let place = if self.heading.is_empty() { String::new() } else { format!("line {}: [{}]: ", self.line, self.heading) };
+        notes.extend(missing.map(|key| format!("{place}'{}' is missing, expected is {}", key.name, key.form)));
         notes
+    }
+
+    fn note(&self, known: &[Key], at: usize) -> Option<String> {
+        let Entry { key, value, line } = &self.entries[at];
+        let Some(Key { form, .. }) = known.iter().find(|other| other.name == *key) else {
+            return Some(format!("line {line}: unknown key {}", quoted(key)));
+        };
+        if let Some(first) = self.entries[..at].iter().find(|other| other.key == *key) {
+            return Some(format!("line {line}: key '{key}' stands in line {} already", first.line));
+        }
+        (!is_readable(value, form)).then(|| format!("line {line}: '{key}' is {}, expected is {form}", quoted(value)))
+    }
+}
+
+/// Whether a value is of its key's form. A whole number may be one that is too large for its field, which the core refuses with its range.
+fn is_readable(value: &str, form: &Form) -> bool {
+    match form {
+        Form::Kind => true,
+        Form::Whole(_) => value.parse::<i128>().is_ok(),
+        Form::Reading => reading_of(value).is_some(),
     }
 }
 
@@ -138,7 +155,7 @@ impl Sheet {
             return self;
         }
         let notes = self.notes_without_kind(&format!("not 'sheet = {kind}'"));
-        Sheet { notes, ..Sheet::default() }
+        Sheet { unread: true, notes, ..Sheet::default() }
     }
 
     /// The notes on a sheet whose first key is not the one that it should be.
@@ -150,16 +167,25 @@ impl Sheet {
         notes
     }
 
-    /// Nothing that an operator wrote is passed over: a key that is not known or stands twice is named.
-    pub fn note_keys(&mut self, head: &[String], section: &[String]) {
+    /// Nothing that an operator wrote is passed over, and nothing that he left out: what is no value of a known key is named.
+    pub fn note_keys(&mut self, head: &[Key], section: &[Key]) {
+        if self.unread {
+            return;
+        }
         self.notes.extend(self.head.notes(head));
         self.notes.extend(self.sections.iter().flat_map(|part| part.notes(section)));
     }
 
-    /// Names each section that is not as it should be.
-    pub fn note_sections(&mut self, is_good: impl Fn(&Section) -> bool) {
-        let others = self.sections.iter().filter(|section| !is_good(section));
-        self.notes.extend(others.map(|other| format!("line {}: unknown section {}", other.line, quoted(&other.heading))));
+    /// Names each section that is none of the expected ones, or does not stand in its place among them.
+    pub fn note_sections(&mut self, expected: &[&str]) {
+        for (at, Section { heading, line, .. }) in self.sections.iter().enumerate() {
+            if !expected.contains(&heading.as_str()) {
+                self.notes.push(format!("line {line}: unknown section {}", quoted(heading)));
+            } else if expected.get(at) != Some(&heading.as_str()) {
+                let due = expected.get(at).map_or("none".to_string(), |due| format!("'{due}'"));
+                self.notes.push(format!("line {line}: section '{heading}' stands where {due} is expected"));
+            }
+        }
     }
 }
 

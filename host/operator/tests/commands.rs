@@ -40,20 +40,21 @@ fn edited(name: &str, from: &str, to: &str) -> String {
     text.replacen(from, to, 1)
 }
 
-/// `check` refuses the file with these words.
-fn refused(name: &str, bytes: impl AsRef<[u8]>, words: &str) {
+/// `check` refuses the file with these words, and has these notes on it.
+fn refused_with_notes(name: &str, bytes: impl AsRef<[u8]>, words: &str, notes: &[&str]) {
     let path = stored(name, bytes);
     let run = run(&["check", &path]);
-    assert_eq!((run.out, run.errors), (format!("{path}: refused: {words}\n"), String::new()));
+    let errors: String = notes.iter().map(|note| format!("{path}: {note}\n")).collect();
+    assert_eq!((run.out, run.errors), (format!("{path}: refused: {words}\n"), errors));
     assert_eq!(run.code, Some(1));
 }
 
-/// As `refused`, and the notes on the file have these words.
 fn refused_with_note(name: &str, bytes: impl AsRef<[u8]>, words: &str, note: &str) {
-    let path = stored(name, bytes);
-    let run = run(&["check", &path]);
-    assert_eq!((run.out, run.errors), (format!("{path}: refused: {words}\n"), format!("{path}: {note}\n")));
-    assert_eq!(run.code, Some(1));
+    refused_with_notes(name, bytes, words, &[note]);
+}
+
+fn refused(name: &str, bytes: impl AsRef<[u8]>, words: &str) {
+    refused_with_notes(name, bytes, words, &[]);
 }
 
 #[test]
@@ -103,28 +104,78 @@ fn a_malformed_table_makes_no_house_file() {
 #[test]
 fn damaged_vehicle_sheets() {
     let with = |from, to| edited("annex13.vehicle", from, to);
-    refused("power.vehicle", with("power = 720", ""), "5 vehicle sheet out of range, field 1 power");
     refused("negative.vehicle", with("mass = 199", "mass = -199"), "5 vehicle sheet out of range, field 2 mass");
-    refused("malformed.vehicle", with("rated = 11800", "rated = 11,800"), "5 vehicle sheet out of range, field 3 rated");
     refused("large.vehicle", with("idle = 1150", "idle = 4294968446"), "5 vehicle sheet out of range, field 4 idle");
-    refused("empty.vehicle", with("gears = 6", "gears ="), "5 vehicle sheet out of range, field 5 gears");
-    refused("ndv.vehicle", with("ndv 3 = 7616", "ndv 3 = 76.16"), "5 vehicle sheet out of range, field 8 ndv of gear 3");
     refused("rising.vehicle", with("ndv 3 = 7616", "ndv 3 = 9491"), "6 ndv not below that of the gear before, gear 3");
     refused("strong.vehicle", with("power = 720", "power = 3000"), "7 power to mass");
-    refused("bare.vehicle", "sheet = vehicle\n", "5 vehicle sheet out of range, field 1 power");
+}
+
+#[test]
+fn malformed_values_of_a_vehicle() {
+    let values = [
+        ("power = 720", "power = 72O", "field 1 power", "line 3: 'power' is '72O', expected is a whole number, 1 to 3,000 in 0.1 kW"),
+        ("power = 720", "", "field 1 power", "'power' is missing, expected is a whole number, 1 to 3,000 in 0.1 kW"),
+        ("mass = 199", "mass = 199 kg", "field 2 mass", "line 4: 'mass' is '199 kg', expected is a whole number, 30 to 1,000 kg"),
+        (
+            "rated = 11800",
+            "rated = 11,800",
+            "field 3 rated",
+            "line 5: 'rated' is '11,800', expected is a whole number, 1,000 to 20,000 per minute",
+        ),
+        ("idle = 1150", "idle = 1e3", "field 4 idle", "line 6: 'idle' is '1e3', expected is a whole number, 300 to 3,000 per minute"),
+        ("gears = 6", "gears =", "field 5 gears", "line 7: 'gears' is '', expected is a whole number, 3 to 8"),
+        (
+            "ndv 3 = 7616",
+            "ndv 3 = 76.16",
+            "field 8 ndv of gear 3",
+            "line 11: 'ndv 3' is '76.16', expected is a whole number, 1,000 to 100,000 in 0.01 per minute per km/h",
+        ),
+        (
+            "ndv 6 = 5404",
+            "",
+            "field 11 ndv of gear 6",
+            "'ndv 6' is missing, expected is a whole number, 1,000 to 100,000 in 0.01 per minute per km/h",
+        ),
+    ];
+    for (from, to, field, note) in values {
+        let text = edited("annex13.vehicle", from, to);
+        refused_with_note("malformed.vehicle", text, &format!("5 vehicle sheet out of range, {field}"), note);
+    }
+    let told = run(&["check", &stored("bare.vehicle", "sheet = vehicle\n")]);
+    assert!(told.out.ends_with(": refused: 5 vehicle sheet out of range, field 1 power\n"), "{}", told.out);
+    assert_eq!(told.errors.matches(" is missing, expected is a whole number, ").count(), 5, "{}", told.errors);
 }
 
 #[test]
 fn damaged_values_of_a_test() {
     let with = |from, to| edited("low_nox.bags", from, to);
     let count = "10 class not 1 to 3, or wrong number of parts";
-    refused("class.bags", with("class = 3", ""), count);
+    refused_with_note("class.bags", with("class = 3", ""), count, "'class' is missing, expected is a whole number, 1 to 3");
+    refused_with_note("word.bags", with("class = 3", "class = III"), count, "line 4: 'class' is 'III', expected is a whole number, 1 to 3");
     refused("two.bags", with("class = 3", "class = 2"), count);
-    refused("twice.bags", with("[part 3]", "[part 2]"), count);
-    refused("swapped.bags", with("[part 1]", "[part 3]"), count);
-    refused("bare.bags", "sheet = bags\nclass = 3\n", count);
-    refused("triple.bags", with("triple wc = 10\n", ""), "11 bag sheet value, test, field 10 dilution triple");
-    refused("fuel.bags", with("fuel co2 = 273", "fuel co2 = x"), "11 bag sheet value, test, field 11 fuel sheet");
+    refused_with_note("twice.bags", with("[part 3]", "[part 2]"), count, "line 67: section 'part 2' stands where 'part 3' is expected");
+    refused_with_note("swapped.bags", with("[part 1]", "[part 3]"), count, "line 21: section 'part 3' stands where 'part 1' is expected");
+    let told = run(&["check", &stored("bare.bags", "sheet = bags\nclass = 3\n")]);
+    assert!(told.out.ends_with(&format!(": refused: {count}\n")), "{}", told.out);
+    assert_eq!(told.errors.matches(" is missing, expected is a whole number, ").count(), 12, "{}", told.errors);
+    let fields = [
+        ("triple wc = 10\n", "", "10 dilution triple", "'triple wc' is missing, expected is a whole number, 0 to 20 in tenths"),
+        (
+            "fuel co2 = 273",
+            "fuel co2 = x",
+            "11 fuel sheet",
+            "line 18: 'fuel co2' is 'x', expected is a whole number, 0 to 1,000 in 1/1,000",
+        ),
+        (
+            "limit nox = 60000",
+            "limit nox = 60 mg",
+            "12 limits",
+            "line 8: 'limit nox' is '60 mg', expected is a whole number, 0 to 1,000,000,000,000 micrograms/km",
+        ),
+    ];
+    for (from, to, field, note) in fields {
+        refused_with_note("test.bags", with(from, to), &format!("11 bag sheet value, test, field {field}"), note);
+    }
     refused("limit.bags", with("limit nox = 60000", "limit nox = -1"), "11 bag sheet value, test, field 12 limits");
     let past = "limit nox = 18446744073709551616";
     refused("past.bags", with("limit nox = 60000", past), "11 bag sheet value, test, field 12 limits");
@@ -133,15 +184,9 @@ fn damaged_values_of_a_test() {
 #[test]
 fn damaged_values_of_a_part() {
     let fields = [
-        ("pump = 4500 ", "pump = ", "1 pump"),
-        ("revolutions = 15020", "revolutions = 1e4", "2 revolutions"),
-        ("barometer = 101120", "barometer = 1011.2", "3 barometer"),
         ("depression = 1450", "depression = -1450", "4 depression"),
-        ("temperature = 262", "temperature = 26.2", "5 temperature"),
         ("temperature = 262", "temperature = 2147483910", "5 temperature"),
-        ("humidity = 482", "humidity = 48 %", "6 humidity"),
         ("saturation = 2809", "saturation = 4294970105", "7 saturation"),
-        ("distance = 4065", "", "8 distance"),
         ("density nox = 1910000", "density nox = -1", "9 density"),
     ];
     for (from, to, field) in fields {
@@ -150,28 +195,61 @@ fn damaged_values_of_a_part() {
 }
 
 #[test]
-fn damaged_readings() {
-    let damaged = [
-        "over range",
-        "not fitted",
-        "",
-        "0.42",
-        "0,42 ppm",
-        "-0.1 ppm",
-        "nan ppm",
-        "inf ppm",
-        "infinity %",
-        "1e39 ppm",
-        "65537 ppm",
-        "7 %",
-        "ppm",
-        "0.42 ppb",
+fn malformed_values_of_a_part() {
+    let fields = [
+        ("pump = 4500 ", "pump = ", "1 pump", "line 22: 'pump' is '', expected is a whole number, 100 to 20,000 ml a revolution"),
+        (
+            "revolutions = 15020",
+            "revolutions = 1e4",
+            "2 revolutions",
+            "line 23: 'revolutions' is '1e4', expected is a whole number, 1 to 100,000",
+        ),
+        (
+            "barometer = 101120",
+            "barometer = 1011.2",
+            "3 barometer",
+            "line 24: 'barometer' is '1011.2', expected is a whole number, 80,000 to 110,000 Pa",
+        ),
+        (
+            "temperature = 262",
+            "temperature = 26.2",
+            "5 temperature",
+            "line 26: 'temperature' is '26.2', expected is a whole number, -400 to 1,500 in 0.1 degree C",
+        ),
+        (
+            "humidity = 482",
+            "humidity = 48 %",
+            "6 humidity",
+            "line 27: 'humidity' is '48 %', expected is a whole number, 0 to 1,000 in 0.1 percent",
+        ),
+        ("distance = 4065", "", "8 distance", "line 21: [part 1]: 'distance' is missing, expected is a whole number, 100 to 100,000 m"),
+        (
+            "density nox = 1910000",
+            "density nox = 1.91",
+            "9 density",
+            "line 33: 'density nox' is '1.91', expected is a whole number, 1 to 2,100,000 mg per cubic metre",
+        ),
     ];
-    for value in damaged {
-        let text = edited("low_nox.bags", "bag nox = 0.70 ppm", &format!("bag nox = {value}"));
-        refused("reading.bags", text, "12 reading unusable, part 2, NOx, bag");
+    for (from, to, field, note) in fields {
+        let text = edited("low_nox.bags", from, to);
+        refused_with_note("malformed.bags", text, &format!("11 bag sheet value, part 1, field {field}"), note);
     }
-    refused("air.bags", edited("low_nox.bags", "air nox = 0.83 ppm\n", ""), "12 reading unusable, part 2, NOx, dilution air");
+}
+
+#[test]
+fn damaged_readings() {
+    let words = "12 reading unusable, part 2, NOx, bag";
+    let with = |value: &str| edited("low_nox.bags", "bag nox = 0.70 ppm", &format!("bag nox = {value}"));
+    for value in ["over range", "not fitted", "-0.1 ppm", "1e39 ppm", "65537 ppm", "7 %"] {
+        refused("reading.bags", with(value), words);
+    }
+    let expected = "expected is a reading: '12.5 ppm', '1.2 %', 'over range' or 'not fitted'";
+    for value in ["", "0.42", "0,42 ppm", "nan ppm", "inf ppm", "infinity %", "ppm", "0.42 ppb"] {
+        refused_with_note("unread.bags", with(value), words, &format!("line 60: 'bag nox' is '{value}', {expected}"));
+    }
+    let missing = edited("low_nox.bags", "air nox = 0.83 ppm\n", "");
+    let note = format!("line 44: [part 2]: 'air nox' is missing, {expected}");
+    refused_with_note("air.bags", missing, "12 reading unusable, part 2, NOx, dilution air", &note);
     refused(
         "rich.bags",
         edited("low_nox.bags", "bag co = 88.6 ppm", "bag co = 6.55 %").replace("0.452 %", "6.55 %").replace("31.4 ppm", "6.55 %"),
@@ -200,16 +278,21 @@ fn what_a_sheet_does_not_know_is_named() {
     let bags = |from, to| edited("low_nox.bags", from, to);
     let vehicle = |from, to| edited("annex13.vehicle", from, to);
     let count = "10 class not 1 to 3, or wrong number of parts";
-    refused_with_note("unknown.bags", bags("class = 3", "clas = 3"), count, "line 4: unknown key 'clas'");
-    refused_with_note("cursor.bags", bags("class = 3", "\u{1b}[2J = 3"), count, "line 4: unknown key '\\u{1b}[2j'");
+    let missing = "'class' is missing, expected is a whole number, 1 to 3";
+    refused_with_notes("unknown.bags", bags("class = 3", "clas = 3"), count, &["line 4: unknown key 'clas'", missing]);
+    refused_with_notes("cursor.bags", bags("class = 3", "\u{1b}[2J = 3"), count, &["line 4: unknown key '\\u{1b}[2j'", missing]);
     refused_with_note("again.bags", bags("class = 3", "class = 3\nclass = 3"), count, "line 5: key 'class' stands in line 4 already");
     refused_with_note("section.bags", bags("[part 1]", "[first part]"), count, "line 21: unknown section 'first part'");
     refused_with_note("four.bags", bags("[part 3]", "[part 4]"), count, "line 67: unknown section 'part 4'");
-    refused_with_note("line.bags", bags("class = 3", "class 3"), count, "line 4: neither 'key = value' nor a heading: 'class 3'");
+    let line = "line 4: neither 'key = value' nor a heading: 'class 3'";
+    refused_with_notes("line.bags", bags("class = 3", "class 3"), count, &[line, missing]);
     let sixth = "5 vehicle sheet out of range, field 11 ndv of gear 6";
-    refused_with_note("ninth.vehicle", vehicle("ndv 6", "ndv 9"), sixth, "line 14: unknown key 'ndv 9'");
+    let missing = "'ndv 6' is missing, expected is a whole number, 1,000 to 100,000 in 0.01 per minute per km/h";
+    refused_with_notes("ninth.vehicle", vehicle("ndv 6", "ndv 9"), sixth, &["line 14: unknown key 'ndv 9'", missing]);
     let latin = [b"sheet = vehicle\npower = 72".as_slice(), &[0xb9], b"\n"].concat();
-    refused_with_note("latin.vehicle", latin, "5 vehicle sheet out of range, field 1 power", "line 2: a byte that is no UTF-8 text");
+    let told = run(&["check", &stored("latin.vehicle", latin)]);
+    assert!(told.out.ends_with(": refused: 5 vehicle sheet out of range, field 1 power\n"), "{}", told.out);
+    assert!(told.errors.contains(": line 2: a byte that is no UTF-8 text\n"), "{}", told.errors);
     accepted_with_note("more.bags", bags("class = 3", "class = 3\nbench = 7"), "line 5: unknown key 'bench'");
     accepted_with_note("five.vehicle", vehicle("gears = 6", "gears = 5"), "'ndv 6' is past the last gear, 5, and is not read");
 }
