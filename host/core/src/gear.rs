@@ -35,6 +35,18 @@ pub fn judge_pair(normal: &[u8], reduced: &[u8]) -> Result<(), Refusal> {
     calls::judge_pair(normal, reduced).told()
 }
 
+/// Judges one trace: refusals 1 to 4. A trace that is paired with itself is judged alone, and this also says which trace of a refused pair it was:
+/// the normal one where it is refused alone, since it is judged first; else the reduced one, or neither for 15.
+///
+/// ```
+/// let stop = [b'W', b'T', b'R', 0, 1, 0, 1, 0, 0, 0, 0, 0];
+/// assert!(ylhovesko::gear::judge_trace(&stop).is_ok());
+/// assert_eq!(ylhovesko::gear::judge_trace(&stop[..11]).unwrap_err().number, 3);
+/// ```
+pub fn judge_trace(trace: &[u8]) -> Result<(), Refusal> {
+    judge_pair(trace, trace)
+}
+
 /// The one of two lent traces that the bench's reduced-speed switch names, itself and not a copy; the empty first part of the normal one where
 /// [`judge_pair`] refuses them.
 ///

@@ -1,6 +1,6 @@
 //! The words and options after a command.
 
-use crate::Failure;
+use crate::{files, Failure};
 use std::ffi::{OsStr, OsString};
 use std::path::{Path, PathBuf};
 
@@ -46,6 +46,20 @@ impl Arguments {
     /// The words, as paths.
     pub fn paths(&self) -> Vec<PathBuf> {
         self.words.iter().map(PathBuf::from).collect()
+    }
+
+    /// The files that these options name to be written. None is one of the words, which are read, or named before: a row is never written over what
+    /// it was made of.
+    pub fn outputs<const N: usize>(&self, options: [&'static str; N]) -> Result<[Option<&Path>; N], Failure> {
+        let mut named = self.paths();
+        for option in options {
+            let Some(out) = self.option(option) else { continue };
+            if named.iter().any(|other| files::same(out, other)) {
+                return Err(Failure::usage(format!("{option} names a file that is named before")));
+            }
+            named.push(out.to_path_buf());
+        }
+        Ok(options.map(|option| self.option(option)))
     }
 
     /// The words where there are exactly as many as the command takes, which are `wanted`.

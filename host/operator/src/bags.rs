@@ -1,14 +1,19 @@
 //! The bag sheet.
 
 use crate::field::{Form, Key, Range};
+use crate::refusals::{named, Found, GASES};
 use crate::sheet::{Section, Sheet};
 use ylhovesko::bags::{Fuel, Gases, Part, Sheet as BagSheet, Triple};
+use ylhovesko::Refusal;
 
 /// The first word of its file.
 pub const KIND: &str = "bags";
 
 /// As a sheet's keys name them, in the paper's order.
 pub const GAS_KEYS: [&str; 4] = ["hc", "co", "nox", "co2"];
+
+/// The bag, and its dilution air.
+const SIDES: [&str; 2] = ["bag", "air"];
 
 const CLASS: Range = Range::of(1, 3, "");
 /// The headings of the parts, in their order.
@@ -46,30 +51,43 @@ const FUEL: [(&str, Range); 5] = [
 const LIMIT: Range = Range::of(0, 1_000_000_000_000, "micrograms/km");
 
 fn whole(fields: &[(&str, Range)]) -> Vec<Key> {
-    fields.iter().map(|(name, range)| Key::needed(name, Form::Whole(*range))).collect()
+    fields.iter().map(|(name, range)| Key::whole(name, *range)).collect()
 }
 
 fn of_each_gas(word: &str, form: Form) -> Vec<Key> {
     GAS_KEYS.map(|gas| Key::needed(&format!("{word} {gas}"), form)).into()
 }
 
+/// The keys of a field of refusal 11.
+fn keys_of(field: u32) -> Vec<Key> {
+    match field {
+        9 => of_each_gas("density", Form::Whole(DENSITY)),
+        10 => whole(&TRIPLE),
+        11 => whole(&FUEL),
+        12 => of_each_gas("limit", Form::Whole(LIMIT)),
+        _ => PART_FIELDS.get((field as usize).wrapping_sub(1)).map_or(Vec::new(), |only| whole(&[*only])),
+    }
+}
+
+fn class_key() -> Key {
+    Key::whole("class", CLASS)
+}
+
 fn test_keys() -> Vec<Key> {
-    let first = [Key::needed("sheet", Form::Kind), Key::needed("class", Form::Whole(CLASS))];
-    first.into_iter().chain(whole(&TRIPLE)).chain(whole(&FUEL)).chain(of_each_gas("limit", Form::Whole(LIMIT))).collect()
+    [Key::needed("sheet", Form::Kind), class_key()].into_iter().chain((10..=12).flat_map(keys_of)).collect()
 }
 
 fn part_keys() -> Vec<Key> {
-    let densities = of_each_gas("density", Form::Whole(DENSITY));
-    let readings = ["bag", "air"].into_iter().flat_map(|side| of_each_gas(side, Form::Reading));
-    whole(&PART_FIELDS).into_iter().chain(densities).chain(readings).collect()
+    let readings = SIDES.into_iter().flat_map(|side| of_each_gas(side, Form::Reading));
+    (1..=9).flat_map(keys_of).chain(readings).collect()
 }
 
 fn of_gases<T>(word: &str, value: impl Fn(&str) -> T) -> Gases<T> {
     Gases::of(GAS_KEYS.map(|gas| value(&format!("{word} {gas}"))))
 }
 
-/// The bag sheet for the core to judge, and what in it is not of a bag sheet.
-pub fn bag_sheet_of(sheet: Sheet) -> (BagSheet, Vec<String>) {
+/// The bag sheet for the core to judge, and the sheet with notes on what in it is not of a bag sheet.
+pub fn bag_sheet_of(sheet: Sheet) -> (BagSheet, Sheet) {
     let mut sheet = sheet.of_kind(KIND);
     sheet.note_sections(&PARTS);
     sheet.note_keys(&test_keys(), &part_keys());
@@ -86,7 +104,7 @@ pub fn bag_sheet_of(sheet: Sheet) -> (BagSheet, Vec<String>) {
         limits: of_gases("limit", |key| head.limit(key)),
         parts,
     };
-    (bags, sheet.notes)
+    (bags, sheet)
 }
 
 /// How many parts there are; 0, which no class has, where they are not numbered 1, 2, 3 in this order, so that none is taken for another.
@@ -119,4 +137,41 @@ fn part_of(section: &Section) -> Part {
         bag: of_gases("bag", |key| section.reading(key)),
         air: of_gases("air", |key| section.reading(key)),
     }
+}
+
+/// Where a refusal of a bag sheet lies, and what stands there.
+pub fn found(sheet: &Sheet, refusal: Refusal) -> Found {
+    let Refusal { number, at, within, side } = refusal;
+    let place = if at == 0 { "test".to_string() } else { format!("part {at}") };
+    let section = sheet.sections.get((at as usize).wrapping_sub(1)).unwrap_or(&sheet.head);
+    match number {
+        10 => Found { place: String::new(), value: class_and_parts(sheet) },
+        11 => found_field(section, place, within),
+        12 => {
+            let key = Key::needed(&format!("{} {}", named(&SIDES, side), named(&GAS_KEYS, within)), Form::Reading);
+            let place = format!("{place}, {}, {}", named(&GASES, within), named(&["bag", "dilution air"], side));
+            Found { place, value: section.told_with_range(&key) }
+        }
+        _ => Found { place, value: String::new() },
+    }
+}
+
+fn class_and_parts(sheet: &Sheet) -> String {
+    let class = sheet.head.told(&class_key());
+    let count = sheet.sections.len();
+    let parts = if count_of(&sheet.sections) as usize == count { count.to_string() } else { "not 1, 2, 3 in this order".to_string() };
+    format!("class {class}, parts {parts}; 1 or 2 with 2 parts, or 3 with 3")
+}
+
+/// `part 1, field 5, temperature: 1,501; -400 to 1,500 in 0.1 degree C`. Of several numbers of a field it is the first out of its range.
+fn found_field(section: &Section, place: String, field: u32) -> Found {
+    let keys = keys_of(field);
+    let Some(key) = keys.iter().find(|key| !section.in_range(key)).or(keys.first()) else {
+        return Found { place: format!("{place}, field {field}"), value: String::new() };
+    };
+    let mut value = section.told_with_range(key);
+    if key.name == "revolutions" && section.in_range(key) {
+        value += &format!(", and at most 1,000,000,000 ml with pump {}", section.told(&keys_of(1)[0]));
+    }
+    Found { place: format!("{place}, field {field}, {}", key.name), value }
 }

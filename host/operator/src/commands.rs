@@ -1,11 +1,14 @@
 //! What each command does: files in, one text out.
 
 use crate::arguments::Arguments;
-use crate::files::{self, Known, Noted};
-use crate::{picture, refusals, result_sheet, row, Failure, Told};
+use crate::files::{self, Given, Known};
+use crate::pair::Pair;
+use crate::refusals::Found;
+use crate::sheet::Sheet;
+use crate::{bags, picture, refusals, result_sheet, row, trace, vehicle, Failure, Told};
 use std::ffi::OsString;
 use std::path::Path;
-use ylhovesko::gear::{gears as core_gears, judge_pair};
+use ylhovesko::gear::{gears as core_gears, judge_trace};
 use ylhovesko::Refusal;
 
 /// One second of stop: any vehicle that is taken has a row for it.
@@ -14,23 +17,25 @@ const STOP: [u8; 12] = [b'W', b'T', b'R', 0, 1, 0, 1, 0, 0, 0, 0, 0];
 pub fn gears(given: &[OsString]) -> Result<Told, Failure> {
     let arguments = Arguments::of(given, &["--csv", "--svg"], &[])?;
     let [trace, vehicle] = arguments.exactly("a trace and a vehicle sheet")?;
-    let mut named = vec![trace.as_path(), vehicle.as_path()];
-    for option in ["--csv", "--svg"] {
-        let Some(out) = arguments.option(option) else { continue };
-        if named.iter().any(|other| files::same(out, other)) {
-            return Err(Failure::usage(format!("{option} names a file that is named before")));
-        }
-        named.push(out);
+    let [csv, svg] = arguments.outputs(["--csv", "--svg"])?;
+    gears_of(&trace, &vehicle, csv, svg)
+}
+
+/// Where a refusal of a row lies: in the vehicle sheet, or in the trace.
+fn found_in_row(trace: &[u8], sheet: &Sheet, refusal: Refusal) -> Found {
+    match refusal.number {
+        5..=7 => vehicle::found(sheet, refusal),
+        _ => trace::found(trace, refusal),
     }
-    gears_of(&trace, &vehicle, arguments.option("--csv"), arguments.option("--svg"))
 }
 
 fn gears_of(trace: &Path, vehicle: &Path, csv: Option<&Path>, svg: Option<&Path>) -> Result<Told, Failure> {
     let title = format!("Gears of {} for {}", files::name(trace), files::name(vehicle));
-    let Noted { value: vehicle, notes } = files::vehicle(vehicle)?;
-    let row = match row::row_of(&files::read(trace)?, vehicle) {
+    let Given { value: vehicle, text, notes } = files::vehicle(vehicle)?;
+    let trace = files::read(trace)?;
+    let row = match row::row_of(&trace, vehicle) {
         Ok(row) => row,
-        Err(refusal) => return Ok(Told::refused(refusals::line(refusal) + "\n").noting(&notes)),
+        Err(refusal) => return Ok(Told::refused(refusals::line(refusal, &found_in_row(&trace, &text, refusal)) + "\n").noting(&notes)),
     };
     if let Some(path) = csv {
         files::write(path, &row::csv(&row))?;
@@ -47,13 +52,13 @@ pub fn result(given: &[OsString]) -> Result<Told, Failure> {
 }
 
 fn result_of(path: &Path) -> Result<Told, Failure> {
-    let Noted { value: sheet, notes } = files::bag_sheet(path)?;
+    let Given { value: sheet, text, notes } = files::bag_sheet(path)?;
     let told = match ylhovesko::bags::result(sheet) {
         Ok(result) => {
             let title = format!("Result of {}, class {}", files::name(path), sheet.class);
             Told::accepted(format!("{title}\n\n{}", result_sheet::text(&sheet, &result)))
         }
-        Err(refusal) => Told::refused(refusals::line(refusal) + "\n"),
+        Err(refusal) => Told::refused(refusals::line(refusal, &bags::found(&text, refusal)) + "\n"),
     };
     Ok(told.noting(&notes))
 }
@@ -62,8 +67,10 @@ pub fn check(given: &[OsString]) -> Result<Told, Failure> {
     let arguments = Arguments::of(given, &[], &["--pair"])?;
     if arguments.has("--pair") {
         let [normal, reduced] = arguments.exactly("a normal and a reduced trace")?;
-        let judged = judge_pair(&files::read(&normal)?, &files::read(&reduced)?);
-        return Ok(judged_line(&format!("{} and {}", normal.display(), reduced.display()), judged));
+        return Ok(match Pair::read(&normal, &reduced)?.judged() {
+            Ok(line) => Told::accepted(line + "\n"),
+            Err(line) => Told::refused(line + "\n"),
+        });
     }
     let paths = arguments.paths();
     if paths.is_empty() {
@@ -77,10 +84,10 @@ pub fn check(given: &[OsString]) -> Result<Told, Failure> {
     Ok(told)
 }
 
-fn judged_line(name: &str, judged: Result<(), Refusal>) -> Told {
+fn judged_line(name: &str, judged: Result<(), Refusal>, found: impl Fn(Refusal) -> Found) -> Told {
     match judged {
         Ok(()) => Told::accepted(format!("{name}: accepted\n")),
-        Err(refusal) => Told::refused(format!("{name}: {}\n", refusals::line(refusal))),
+        Err(refusal) => Told::refused(format!("{name}: {}\n", refusals::line(refusal, &found(refusal)))),
     }
 }
 
@@ -88,14 +95,18 @@ fn judge(path: &Path) -> Result<Told, Failure> {
     let name = path.display().to_string();
     if files::is_trace(path) {
         let trace = files::read(path)?;
-        return Ok(judged_line(&name, judge_pair(&trace, &trace)));
+        return Ok(judged_line(&name, judge_trace(&trace), |refusal| trace::found(&trace, refusal)));
     }
-    let Noted { value: known, notes } = files::known(path)?;
-    let judged = match known {
-        Known::Vehicle(vehicle) => core_gears(&STOP, vehicle, &mut [0; 2], 0),
-        Known::Bags(sheet) => ylhovesko::bags::result(*sheet).map(|_| ()),
-    };
-    Ok(judged_line(&name, judged).noting(&notes))
+    Ok(match files::known(path)? {
+        Known::Vehicle(sheet) => {
+            let judged = core_gears(&STOP, sheet.value, &mut [0; 2], 0);
+            judged_line(&name, judged, |refusal| vehicle::found(&sheet.text, refusal)).noting(&sheet.notes)
+        }
+        Known::Bags(sheet) => {
+            let judged = ylhovesko::bags::result(sheet.value).map(|_| ());
+            judged_line(&name, judged, |refusal| bags::found(&sheet.text, refusal)).noting(&sheet.notes)
+        }
+    })
 }
 
 /// The demo's traces, by name.

@@ -16,6 +16,10 @@ impl Range {
     pub const fn of(lowest: i64, highest: i64, unit: &'static str) -> Range {
         Range { lowest, highest, unit }
     }
+
+    pub fn has(self, number: i128) -> bool {
+        (i128::from(self.lowest)..=i128::from(self.highest)).contains(&number)
+    }
 }
 
 /// `1 to 3,000 in 0.1 kW`.
@@ -38,12 +42,22 @@ pub enum Form {
     Reading,
 }
 
-impl fmt::Display for Form {
-    fn fmt(&self, to: &mut fmt::Formatter) -> fmt::Result {
+impl Form {
+    /// What a malformed value should have been.
+    pub fn expected(&self) -> String {
         match self {
-            Form::Kind => write!(to, "'vehicle' or 'bags'"),
-            Form::Whole(range) => write!(to, "a whole number, {range}"),
-            Form::Reading => write!(to, "a reading: '12.5 ppm', '1.2 %', 'over range' or 'not fitted'"),
+            Form::Kind => self.range(),
+            Form::Whole(range) => format!("a whole number, {range}"),
+            Form::Reading => "a reading: '12.5 ppm', '1.2 %', 'over range' or 'not fitted'".to_string(),
+        }
+    }
+
+    /// What a value has to be for the core to take it.
+    pub fn range(&self) -> String {
+        match self {
+            Form::Kind => "'vehicle' or 'bags'".to_string(),
+            Form::Whole(range) => range.to_string(),
+            Form::Reading => "0 to 65,536 ppm or 6.5536 %".to_string(),
         }
     }
 }
@@ -60,5 +74,9 @@ pub struct Key {
 impl Key {
     pub fn needed(name: &str, form: Form) -> Key {
         Key { name: name.to_string(), form, needed: true }
+    }
+
+    pub fn whole(name: &str, range: Range) -> Key {
+        Key::needed(name, Form::Whole(range))
     }
 }

@@ -9,7 +9,7 @@ use ylhovesko::bags::Sheet as BagSheet;
 use ylhovesko::gear::Vehicle;
 
 /// More than any trace or sheet has. A longer file is read to here only: as a trace it is refused for its length all the same.
-const LONGEST: u64 = 65_536;
+pub const LONGEST: u64 = 65_536;
 
 /// The name of a file without its folder, for headings.
 pub fn name(path: &Path) -> String {
@@ -45,14 +45,16 @@ pub fn same(one: &Path, other: &Path) -> bool {
     one == other || place(one).is_some_and(|here| place(other) == Some(here))
 }
 
-/// What was read of a file, with a line for each note on it.
-pub struct Noted<T> {
+/// A sheet that was read: what the core gets, its text for the words of a refusal, and a line for each note on it.
+pub struct Given<T> {
     pub value: T,
+    pub text: Sheet,
     pub notes: String,
 }
 
-fn noted<T>(path: &Path, (value, notes): (T, Vec<String>)) -> Noted<T> {
-    Noted { value, notes: lines(path, &notes) }
+fn given<T>(path: &Path, (value, text): (T, Sheet)) -> Given<T> {
+    let notes = lines(path, &text.notes);
+    Given { value, text, notes }
 }
 
 /// The sheet in a file. One that is too long counts as empty, because a value at the cut would be another.
@@ -64,33 +66,26 @@ fn sheet(path: &Path) -> Result<Sheet, Failure> {
     Ok(Sheet::read(&bytes))
 }
 
-pub fn vehicle(path: &Path) -> Result<Noted<Vehicle>, Failure> {
-    Ok(noted(path, vehicle::vehicle_of(sheet(path)?)))
+pub fn vehicle(path: &Path) -> Result<Given<Vehicle>, Failure> {
+    Ok(given(path, vehicle::vehicle_of(sheet(path)?)))
 }
 
-pub fn bag_sheet(path: &Path) -> Result<Noted<BagSheet>, Failure> {
-    Ok(noted(path, bags::bag_sheet_of(sheet(path)?)))
+pub fn bag_sheet(path: &Path) -> Result<Given<BagSheet>, Failure> {
+    Ok(given(path, bags::bag_sheet_of(sheet(path)?)))
 }
 
 /// Either of the two sheets.
 pub enum Known {
-    Vehicle(Vehicle),
-    Bags(Box<BagSheet>),
+    Vehicle(Box<Given<Vehicle>>),
+    Bags(Box<Given<BagSheet>>),
 }
 
 /// The sheet in a file, of the kind that its first key names.
-pub fn known(path: &Path) -> Result<Noted<Known>, Failure> {
+pub fn known(path: &Path) -> Result<Known, Failure> {
     let sheet = sheet(path)?;
-    let (known, notes) = match sheet.kind.as_deref() {
-        Some(vehicle::KIND) => {
-            let (vehicle, notes) = vehicle::vehicle_of(sheet);
-            (Known::Vehicle(vehicle), notes)
-        }
-        Some(bags::KIND) => {
-            let (bags, notes) = bags::bag_sheet_of(sheet);
-            (Known::Bags(Box::new(bags)), notes)
-        }
-        _ => return Err(Failure::of_file(path, &sheet.notes_without_kind("neither 'sheet = vehicle' nor 'sheet = bags'"))),
-    };
-    Ok(noted(path, (known, notes)))
+    match sheet.kind.as_deref() {
+        Some(vehicle::KIND) => Ok(Known::Vehicle(Box::new(given(path, vehicle::vehicle_of(sheet))))),
+        Some(bags::KIND) => Ok(Known::Bags(Box::new(given(path, bags::bag_sheet_of(sheet))))),
+        _ => Err(Failure::of_file(path, &sheet.notes_without_kind("neither 'sheet = vehicle' nor 'sheet = bags'"))),
+    }
 }

@@ -8,12 +8,14 @@ mod commands;
 mod field;
 mod files;
 mod help;
+mod pair;
 mod picture;
 mod preset;
 mod refusals;
 mod result_sheet;
 mod row;
 mod sheet;
+mod trace;
 mod vehicle;
 
 use std::ffi::OsString;

@@ -1,5 +1,6 @@
 //! The gear row: a trace's seconds with the gear and the clutch that the core gave them.
 
+use crate::trace::{self, kilometres_an_hour};
 use ylhovesko::gear::{gears, Vehicle};
 use ylhovesko::Refusal;
 
@@ -23,19 +24,12 @@ pub fn row_of(trace: &[u8], vehicle: Vehicle) -> Result<Vec<Second>, Refusal> {
     let mut buffer = vec![0; 2 * LONGEST];
     gears(trace, vehicle, &mut buffer, 0)?;
     // The core took the trace, so its length is that of its count of seconds.
-    let told = trace.get(8..).unwrap_or(&[]).chunks_exact(4).zip(buffer.chunks_exact(2));
+    let told = trace::seconds(trace).into_iter().zip(buffer.chunks_exact(2));
     Ok((1..).zip(told).map(|(number, (second, pair))| second_of(number, second, pair)).collect())
 }
 
-fn second_of(number: usize, second: &[u8], pair: &[u8]) -> Second {
-    let speed = u16::from_le_bytes([second[0], second[1]]);
-    let phase = ["stop", "acceleration", "cruise", "deceleration"][usize::from(second[2] & 3)];
-    Second { number, speed, phase, gear: pair[0], clutch_out: pair[1] == 1 }
-}
-
-/// A speed of 0.1 km/h in km/h.
-pub fn kilometres_an_hour(tenths: u16) -> String {
-    format!("{}.{}", tenths / 10, tenths % 10)
+fn second_of(number: usize, second: trace::Second, pair: &[u8]) -> Second {
+    Second { number, speed: second.speed, phase: second.phase(), gear: pair[0], clutch_out: pair[1] == 1 }
 }
 
 pub fn clutch(out: bool) -> &'static str {

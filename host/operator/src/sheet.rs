@@ -4,6 +4,7 @@
 //! that the core refuses it and says where it stands. What a sheet holds beside its values is named in a note.
 
 use crate::field::{Form, Key};
+use crate::result_sheet::grouped;
 use ylhovesko::bags::Reading;
 
 /// No unsigned field of a sheet reaches this.
@@ -40,6 +41,23 @@ impl Section {
         self.entries.iter().any(|entry| entry.key == key)
     }
 
+    /// A value as it is written, a whole number in groups of digits.
+    pub fn told(&self, key: &Key) -> String {
+        let written = self.value(&key.name).filter(|value| is_readable(value, &key.form));
+        written.map_or("no value".to_string(), |value| value.parse().map_or(lowered(value), grouped))
+    }
+
+    /// `3,001; 1 to 3,000 in 0.1 kW`.
+    pub fn told_with_range(&self, key: &Key) -> String {
+        format!("{}; {}", self.told(key), key.form.range())
+    }
+
+    /// Whether the key's whole number lies in its range, for the choice of the one that is shown.
+    pub fn in_range(&self, key: &Key) -> bool {
+        let number = self.value(&key.name).and_then(|value| value.parse().ok());
+        matches!(key.form, Form::Whole(range) if number.is_some_and(|number| range.has(number)))
+    }
+
     pub fn unsigned(&self, key: &str) -> u32 {
         self.value(key).and_then(|value| value.parse().ok()).unwrap_or(NO_UNSIGNED)
     }
@@ -62,7 +80,7 @@ impl Section {
         let mut notes: Vec<String> = (0..self.entries.len()).filter_map(|at| self.note(known, at)).collect();
         let missing = known.iter().filter(|key| key.needed && !self.names(&key.name));
         let place = if self.heading.is_empty() { String::new() } else { format!("line {}: [{}]: ", self.line, self.heading) };
-        notes.extend(missing.map(|key| format!("{place}'{}' is missing, expected is {}", key.name, key.form)));
+        notes.extend(missing.map(|key| format!("{place}'{}' is missing, expected is {}", key.name, key.form.expected())));
         notes
     }
 
@@ -74,7 +92,7 @@ impl Section {
         if let Some(first) = self.entries[..at].iter().find(|other| other.key == *key) {
             return Some(format!("line {line}: key '{key}' stands in line {} already", first.line));
         }
-        (!is_readable(value, form)).then(|| format!("line {line}: '{key}' is {}, expected is {form}", quoted(value)))
+        (!is_readable(value, form)).then(|| format!("line {line}: '{key}' is {}, expected is {}", quoted(value), form.expected()))
     }
 }
 

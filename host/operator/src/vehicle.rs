@@ -1,8 +1,10 @@
 //! The vehicle sheet.
 
 use crate::field::{Form, Key, Range};
+use crate::refusals::Found;
 use crate::sheet::Sheet;
 use ylhovesko::gear::Vehicle;
+use ylhovesko::Refusal;
 
 /// The first word of its file.
 pub const KIND: &str = "vehicle";
@@ -25,11 +27,19 @@ fn ndv_key(gear: u32) -> String {
     format!("ndv {gear}")
 }
 
+/// The key of a field of refusal 5.
+fn key_of(field: u32) -> Key {
+    match FIELDS.get((field as usize).wrapping_sub(1)) {
+        Some((name, range)) => Key::whole(name, *range),
+        None => Key::whole(&ndv_key(field.saturating_sub(FIELDS.len() as u32)), NDV),
+    }
+}
+
 /// The keys of a vehicle with so many gears. Where that is no number of gears, the core reads no ratio.
 fn keys(gears: u32) -> Vec<Key> {
-    let fields = FIELDS.map(|(name, range)| Key::needed(name, Form::Whole(range)));
-    let ndv = |gear| Key { name: ndv_key(gear), form: Form::Whole(NDV), needed: gear <= gears && gears <= MOST };
-    [Key::needed("sheet", Form::Kind)].into_iter().chain(fields).chain((1..=MOST).map(ndv)).collect()
+    let read = if gears <= MOST { gears } else { 0 };
+    let fields = (1..=FIELDS.len() as u32 + MOST).map(|field| Key { needed: field <= FIELDS.len() as u32 + read, ..key_of(field) });
+    [Key::needed("sheet", Form::Kind)].into_iter().chain(fields).collect()
 }
 
 /// The ratios past the last gear, which the core does not read though the sheet is taken.
@@ -38,8 +48,8 @@ fn past_the_last(sheet: &Sheet, gears: u32) -> Vec<String> {
     past.map(|key| format!("'{key}' is past the last gear, {gears}, and is not read")).collect()
 }
 
-/// The vehicle that the sheet describes, for the core to judge, and what in it is not of a vehicle sheet.
-pub fn vehicle_of(sheet: Sheet) -> (Vehicle, Vec<String>) {
+/// The vehicle that the sheet describes, for the core to judge, and the sheet with notes on what in it is not of a vehicle sheet.
+pub fn vehicle_of(sheet: Sheet) -> (Vehicle, Sheet) {
     let mut sheet = sheet.of_kind(KIND);
     let gears = sheet.head.unsigned("gears");
     sheet.note_sections(&[]);
@@ -55,5 +65,28 @@ pub fn vehicle_of(sheet: Sheet) -> (Vehicle, Vec<String>) {
         gears,
         ndv: std::array::from_fn(|i| head.unsigned(&ndv_key(i as u32 + 1))),
     };
-    (vehicle, sheet.notes)
+    (vehicle, sheet)
+}
+
+/// Where a refusal of a vehicle sheet lies, and what stands there.
+pub fn found(sheet: &Sheet, refusal: Refusal) -> Found {
+    let told = |field| sheet.head.told(&key_of(field));
+    let ndv = |gear: u32| told(FIELDS.len() as u32 + gear);
+    let below = |gear: u32| format!("{}; below {} of gear {}", ndv(gear), ndv(gear - 1), gear - 1);
+    match refusal.number {
+        5 => found_field(sheet, refusal.at),
+        6 => Found { place: format!("gear {}", refusal.at), value: below(refusal.at) },
+        7 => Found { place: String::new(), value: format!("power {}, mass {}; 19 x power at most 150 x (mass + 75)", told(1), told(2)) },
+        _ => Found::default(),
+    }
+}
+
+/// `field 1, power: 3,001; 1 to 3,000 in 0.1 kW`.
+fn found_field(sheet: &Sheet, field: u32) -> Found {
+    let key = key_of(field);
+    let mut value = sheet.head.told_with_range(&key);
+    if key.name == "idle" && sheet.head.in_range(&key) {
+        value += &format!(", and at most rated - 500, with rated {}", sheet.head.told(&key_of(3)));
+    }
+    Found { place: format!("field {field}, {}", key.name), value }
 }

@@ -1,0 +1,71 @@
+//! Runs the operator's command as an operator runs it, on files of the demo and on damaged ones.
+// Each of the tests' programs uses its own part of this.
+#![allow(dead_code)]
+
+use std::fs;
+use std::path::{Path, PathBuf};
+use std::process::Command;
+
+pub fn demo() -> PathBuf {
+    Path::new(env!("CARGO_MANIFEST_DIR")).join("../../demo")
+}
+
+/// What a run said on either stream, and its exit code.
+pub struct Run {
+    pub out: String,
+    pub errors: String,
+    pub code: Option<i32>,
+}
+
+pub fn run(arguments: &[&str]) -> Run {
+    let done = Command::new(env!("CARGO_BIN_EXE_ylhovesko-bench")).args(arguments).output().unwrap();
+    let text = |bytes: Vec<u8>| String::from_utf8(bytes).unwrap();
+    Run { out: text(done.stdout), errors: text(done.stderr), code: done.status.code() }
+}
+
+/// A file of its own for each test, which may run beside another.
+pub fn stored(name: &str, bytes: impl AsRef<[u8]>) -> String {
+    let path = Path::new(env!("CARGO_TARGET_TMPDIR")).join(name);
+    fs::write(&path, bytes).unwrap();
+    path.to_str().unwrap().to_string()
+}
+
+/// The path of a file of the demo.
+pub fn of_demo(name: &str) -> String {
+    demo().join(name).to_str().unwrap().to_string()
+}
+
+/// A file that a command is to make, and that is not there yet.
+pub fn to_be_made(name: &str) -> String {
+    let path = Path::new(env!("CARGO_TARGET_TMPDIR")).join(name);
+    let _ = fs::remove_file(&path);
+    path.to_str().unwrap().to_string()
+}
+
+pub fn demo_text(name: &str) -> String {
+    fs::read_to_string(demo().join(name)).unwrap()
+}
+
+/// The demo's file with one text for another at the first place where it stands.
+pub fn edited(name: &str, from: &str, to: &str) -> String {
+    let text = demo_text(name);
+    assert!(text.contains(from), "{name} has no '{from}'");
+    text.replacen(from, to, 1)
+}
+
+/// `check` refuses the file with these words, and has these notes on it.
+pub fn refused_with_notes(name: &str, bytes: impl AsRef<[u8]>, words: &str, notes: &[&str]) {
+    let path = stored(name, bytes);
+    let run = run(&["check", &path]);
+    let errors: String = notes.iter().map(|note| format!("{path}: {note}\n")).collect();
+    assert_eq!((run.out, run.errors), (format!("{path}: refused: {words}\n"), errors));
+    assert_eq!(run.code, Some(1));
+}
+
+pub fn refused_with_note(name: &str, bytes: impl AsRef<[u8]>, words: &str, note: &str) {
+    refused_with_notes(name, bytes, words, &[note]);
+}
+
+pub fn refused(name: &str, bytes: impl AsRef<[u8]>, words: &str) {
+    refused_with_notes(name, bytes, words, &[]);
+}
