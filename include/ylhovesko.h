@@ -76,7 +76,12 @@ typedef struct {
 ylhovesko_outcome ylhovesko_gears(const uint8_t *trace, size_t trace_length, ylhovesko_vehicle vehicle, uint8_t *buffer, size_t buffer_length,
                                   size_t start);
 
-/* The normal and the reduced trace of a cycle, judged as a pair. Refusals 1 to 4 of the normal one, then of the reduced one, then 15. */
+/*
+ * The normal and the reduced trace of a cycle, judged as a pair. Refusals 1 to 4 of the normal one, then of the reduced one, then 15.
+ *
+ * The outcome has no place for which of the two it is. A trace that is paired with itself is judged alone, so that tells it: a refusal 1 to 4 is the
+ * normal trace's where ylhovesko_judge_pair(normal, normal_length, normal, normal_length) refuses too, else the reduced one's.
+ */
 ylhovesko_outcome ylhovesko_judge_pair(const uint8_t *normal, size_t normal_length, const uint8_t *reduced, size_t reduced_length);
 
 /* Answers of ylhovesko_chosen. */

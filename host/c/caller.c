@@ -99,9 +99,10 @@ int main(void)
     expect("a second", is(ylhovesko_gears(damaged, sizeof damaged, vehicle, buffer, sizeof buffer, 0), 4, 2));
     expect("the buffer after refusals", memcmp(buffer, written, sizeof buffer) == 0);
 
-    expect("a pair", is(ylhovesko_judge_pair(normal, sizeof normal, normal, sizeof normal), 0, 0));
     expect("counts", is(ylhovesko_judge_pair(normal, sizeof normal, reduced, sizeof reduced), 15, 0));
     expect("the reduced trace", is(ylhovesko_judge_pair(normal, sizeof normal, damaged, sizeof damaged), 4, 2));
+    expect("the normal one alone", is(ylhovesko_judge_pair(normal, sizeof normal, normal, sizeof normal), 0, 0));
+    expect("the damaged one alone", is(ylhovesko_judge_pair(damaged, sizeof damaged, damaged, sizeof damaged), 4, 2));
 
     expect("switch off", ylhovesko_chosen(normal, sizeof normal, normal, sizeof normal, false) == YLHOVESKO_NORMAL);
     expect("switch on", ylhovesko_chosen(normal, sizeof normal, normal, sizeof normal, true) == YLHOVESKO_REDUCED);

@@ -2,10 +2,10 @@
 
 use crate::arguments::Arguments;
 use crate::files::{self, Given, Known};
+use crate::gears::Outputs;
 use crate::pair::Pair;
 use crate::refusals::Found;
-use crate::sheet::Sheet;
-use crate::{bags, picture, refusals, result_sheet, row, trace, vehicle, Failure, Told};
+use crate::{bags, gears, refusals, result_sheet, trace, vehicle, Failure, Told};
 use std::ffi::OsString;
 use std::path::Path;
 use ylhovesko::gear::{gears as core_gears, judge_trace};
@@ -14,45 +14,13 @@ use ylhovesko::Refusal;
 /// One second of stop: any vehicle that is taken has a row for it.
 const STOP: [u8; 12] = [b'W', b'T', b'R', 0, 1, 0, 1, 0, 0, 0, 0, 0];
 
-pub fn gears(given: &[OsString]) -> Result<Told, Failure> {
-    let arguments = Arguments::of(given, &["--csv", "--svg"], &[])?;
-    let [trace, vehicle] = arguments.exactly("a trace and a vehicle sheet")?;
-    let [csv, svg] = arguments.outputs(["--csv", "--svg"])?;
-    gears_of(&trace, &vehicle, csv, svg)
-}
-
-/// Where a refusal of a row lies: in the vehicle sheet, or in the trace.
-fn found_in_row(trace: &[u8], sheet: &Sheet, refusal: Refusal) -> Found {
-    match refusal.number {
-        5..=7 => vehicle::found(sheet, refusal),
-        _ => trace::found(trace, refusal),
-    }
-}
-
-fn gears_of(trace: &Path, vehicle: &Path, csv: Option<&Path>, svg: Option<&Path>) -> Result<Told, Failure> {
-    let title = format!("Gears of {} for {}", files::name(trace), files::name(vehicle));
-    let Given { value: vehicle, text, notes } = files::vehicle(vehicle)?;
-    let trace = files::read(trace)?;
-    let row = match row::row_of(&trace, vehicle) {
-        Ok(row) => row,
-        Err(refusal) => return Ok(Told::refused(refusals::line(refusal, &found_in_row(&trace, &text, refusal)) + "\n").noting(&notes)),
-    };
-    if let Some(path) = csv {
-        files::write(path, &row::csv(&row))?;
-    }
-    if let Some(path) = svg {
-        files::write(path, &picture::svg(&title, &row))?;
-    }
-    Ok(Told::accepted(format!("{title}\n\n{}", row::table(&row))).noting(&notes))
-}
-
 pub fn result(given: &[OsString]) -> Result<Told, Failure> {
     let [sheet] = Arguments::of(given, &[], &[])?.exactly("a bag sheet")?;
     result_of(&sheet)
 }
 
 fn result_of(path: &Path) -> Result<Told, Failure> {
-    let Given { value: sheet, text, notes } = files::bag_sheet(path)?;
+    let Given { value: sheet, text, notes, .. } = files::bag_sheet(path)?;
     let told = match ylhovesko::bags::result(sheet) {
         Ok(result) => {
             let title = format!("Result of {}, class {}", files::name(path), sheet.class);
@@ -117,9 +85,10 @@ pub fn demo(given: &[OsString]) -> Result<Told, Failure> {
     let arguments = Arguments::of(given, &["--from"], &[])?;
     let [] = arguments.exactly("no file")?;
     let folder = arguments.option("--from").unwrap_or(Path::new("demo"));
+    let vehicle = files::vehicle(&folder.join("annex13.vehicle"))?;
     let mut told = Told::default();
     for trace in DEMO_TRACES {
-        told.add(gears_of(&folder.join(trace), &folder.join("annex13.vehicle"), None, None)?);
+        told.add(gears::of_trace(&folder.join(trace), &vehicle, Outputs::default())?);
         told.add(Told::accepted("\n".to_string()));
     }
     told.add(result_of(&folder.join("low_nox.bags"))?);

@@ -47,6 +47,7 @@ pub fn same(one: &Path, other: &Path) -> bool {
 
 /// A sheet that was read: what the core gets, its text for the words of a refusal, and a line for each note on it.
 pub struct Given<T> {
+    pub path: PathBuf,
     pub value: T,
     pub text: Sheet,
     pub notes: String,
@@ -54,7 +55,7 @@ pub struct Given<T> {
 
 fn given<T>(path: &Path, (value, text): (T, Sheet)) -> Given<T> {
     let notes = lines(path, &text.notes);
-    Given { value, text, notes }
+    Given { path: path.to_path_buf(), value, text, notes }
 }
 
 /// The sheet in a file. One that is too long counts as empty, because a value at the cut would be another.

@@ -21,9 +21,12 @@ exit: 0 accepted, 1 refused (the refusal is printed), 2 wrong use or a file that
 
 pub const GEARS: &str = "\
 usage: ylhovesko-bench gears TRACE VEHICLE [--csv FILE] [--svg FILE]
+       ylhovesko-bench gears --pair NORMAL REDUCED VEHICLE [--reduced] [--csv FILE] [--svg FILE]
 
 Prints the gear and the clutch of a trace (a house file) for a vehicle sheet, a line for each run of seconds.
 
+  --pair        takes the normal and the reduced trace of a cycle, judges both, and prints the gears of the one that the switch names
+  --reduced     the bench's reduced-speed switch is on: the reduced trace of the pair
   --csv FILE    writes every second with its speed, phase, gear and clutch
   --svg FILE    writes a picture of the speed over time, in the colour of the gear, with the seconds of the clutch out
 

@@ -7,6 +7,7 @@ mod bags;
 mod commands;
 mod field;
 mod files;
+mod gears;
 mod help;
 mod pair;
 mod picture;
@@ -84,7 +85,7 @@ type Command = fn(&[OsString]) -> Result<Told, Failure>;
 
 /// Each command with its help.
 const COMMANDS: [(&str, &str, Command); 5] = [
-    ("gears", help::GEARS, commands::gears),
+    ("gears", help::GEARS, gears::gears),
     ("result", help::RESULT, commands::result),
     ("check", help::CHECK, commands::check),
     ("preset", help::PRESET, preset::preset),

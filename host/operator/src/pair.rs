@@ -3,7 +3,7 @@
 use crate::refusals::line;
 use crate::{files, trace, Failure};
 use std::path::{Path, PathBuf};
-use ylhovesko::gear::{judge_pair, judge_trace};
+use ylhovesko::gear::{choose, judge_pair, judge_trace};
 use ylhovesko::Refusal;
 
 /// A trace with its file's name.
@@ -46,5 +46,11 @@ impl Pair {
             }
         }
         format!("{both}: {}", line(refusal, &trace::found_in_pair(&normal.trace, &reduced.trace)))
+    }
+
+    /// The trace that the switch names, with its file; none where the pair is refused.
+    pub fn chosen(&self, reduced_speed: bool) -> (&Path, &[u8]) {
+        let named = if reduced_speed { &self.reduced } else { &self.normal };
+        (&named.path, choose(&self.normal.trace, &self.reduced.trace, reduced_speed))
     }
 }

@@ -78,6 +78,32 @@ fn pairs_of_traces() {
 }
 
 #[test]
+fn gears_of_a_pair() {
+    let (normal, reduced, vehicle) = (of_demo("part1_normal.wtr"), of_demo("part1_reduced.wtr"), of_demo("annex13.vehicle"));
+    for (switch, trace, which) in [(&[][..], &normal, "normal"), (&["--reduced"], &reduced, "reduced")] {
+        let told = run(&[&["gears", "--pair", &normal, &reduced, &vehicle], switch].concat());
+        assert_eq!((told.errors.as_str(), told.code), ("", Some(0)));
+        let (title, row) = told.out.split_once('\n').unwrap();
+        assert_eq!(title, format!("Gears of part1_{which}.wtr, the {which} trace of its pair, for annex13.vehicle"));
+        let alone = run(&["gears", trace, &vehicle]).out;
+        assert_eq!(row, alone.split_once('\n').unwrap().1);
+    }
+}
+
+#[test]
+fn a_refused_pair_has_no_gears() {
+    let (normal, vehicle) = (of_demo("part1_normal.wtr"), of_demo("annex13.vehicle"));
+    let damaged = stored("second_of_pair.wtr", [b'W', b'T', b'R', 0, 1, 0, 1, 0, 0, 0, 0, 7]);
+    let csv = to_be_made("refused_pair.csv");
+    // the damaged trace is refused whether or not the switch names it
+    for switch in [&[][..], &["--reduced"]] {
+        let told = run(&[&["gears", "--pair", &normal, &damaged, &vehicle, "--csv", &csv], switch].concat());
+        assert!(told.out.starts_with(&format!("{damaged}, the reduced trace: refused: 4 ")), "{}", told.out);
+        assert_eq!((told.out.lines().count(), told.code, Path::new(&csv).exists()), (1, Some(1), false));
+    }
+}
+
+#[test]
 fn refused_gears_write_no_files() {
     let trace = of_demo("part1_normal.wtr");
     let vehicle = stored("refused.vehicle", edited("annex13.vehicle", "gears = 6", "gears = 9"));

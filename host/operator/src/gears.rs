@@ -1,0 +1,70 @@
+//! The gears of a trace, or of the one of a pair that the bench's reduced-speed switch names.
+
+use crate::arguments::Arguments;
+use crate::files::{self, Given};
+use crate::pair::Pair;
+use crate::{picture, refusals, row, trace, vehicle, Failure, Told};
+use std::ffi::OsString;
+use std::path::Path;
+use ylhovesko::gear::Vehicle;
+use ylhovesko::Refusal;
+
+/// Where a row is written beside what is printed.
+#[derive(Default)]
+pub struct Outputs<'a> {
+    csv: Option<&'a Path>,
+    svg: Option<&'a Path>,
+}
+
+pub fn gears(given: &[OsString]) -> Result<Told, Failure> {
+    let arguments = Arguments::of(given, &["--csv", "--svg"], &["--pair", "--reduced"])?;
+    let [csv, svg] = arguments.outputs(["--csv", "--svg"])?;
+    let outputs = Outputs { csv, svg };
+    if arguments.has("--pair") {
+        let [normal, reduced, vehicle] = arguments.exactly("a normal and a reduced trace and a vehicle sheet")?;
+        return of_pair(&Pair::read(&normal, &reduced)?, arguments.has("--reduced"), &files::vehicle(&vehicle)?, outputs);
+    }
+    if arguments.has("--reduced") {
+        return Err(Failure::usage("--reduced is the switch beside a --pair".to_string()));
+    }
+    let [trace, vehicle] = arguments.exactly("a trace and a vehicle sheet")?;
+    of_trace(&trace, &files::vehicle(&vehicle)?, outputs)
+}
+
+pub fn of_trace(path: &Path, vehicle: &Given<Vehicle>, outputs: Outputs) -> Result<Told, Failure> {
+    let title = format!("Gears of {} for {}", files::name(path), files::name(&vehicle.path));
+    of_bytes(&title, &files::read(path)?, vehicle, outputs)
+}
+
+pub fn of_pair(pair: &Pair, reduced_speed: bool, vehicle: &Given<Vehicle>, outputs: Outputs) -> Result<Told, Failure> {
+    if let Err(line) = pair.judged() {
+        return Ok(Told::refused(line + "\n").noting(&vehicle.notes));
+    }
+    let (path, trace) = pair.chosen(reduced_speed);
+    let which = if reduced_speed { "reduced" } else { "normal" };
+    let title = format!("Gears of {}, the {which} trace of its pair, for {}", files::name(path), files::name(&vehicle.path));
+    of_bytes(&title, trace, vehicle, outputs)
+}
+
+fn of_bytes(title: &str, trace: &[u8], vehicle: &Given<Vehicle>, outputs: Outputs) -> Result<Told, Failure> {
+    let row = match row::row_of(trace, vehicle.value) {
+        Ok(row) => row,
+        Err(refusal) => return Ok(Told::refused(line(trace, vehicle, refusal) + "\n").noting(&vehicle.notes)),
+    };
+    if let Some(path) = outputs.csv {
+        files::write(path, &row::csv(&row))?;
+    }
+    if let Some(path) = outputs.svg {
+        files::write(path, &picture::svg(title, &row))?;
+    }
+    Ok(Told::accepted(format!("{title}\n\n{}", row::table(&row))).noting(&vehicle.notes))
+}
+
+/// The refusal of a row in words: it lies in the vehicle sheet, or in the trace.
+fn line(trace: &[u8], vehicle: &Given<Vehicle>, refusal: Refusal) -> String {
+    let found = match refusal.number {
+        5..=7 => vehicle::found(&vehicle.text, refusal),
+        _ => trace::found(trace, refusal),
+    };
+    refusals::line(refusal, &found)
+}
