@@ -15,20 +15,22 @@ use ylhovesko::Refusal;
 const STOP: [u8; 12] = [b'W', b'T', b'R', 0, 1, 0, 1, 0, 0, 0, 0, 0];
 
 pub fn result(given: &[OsString]) -> Result<Told, Failure> {
-    let [sheet] = Arguments::of(given, &[], &[])?.exactly("a bag sheet")?;
-    result_of(&sheet)
+    let arguments = Arguments::of(given, &["--csv"], &[])?;
+    let [sheet] = arguments.exactly("a bag sheet")?;
+    let [csv] = arguments.outputs(["--csv"])?;
+    result_of(&sheet, csv)
 }
 
-fn result_of(path: &Path) -> Result<Told, Failure> {
+fn result_of(path: &Path, csv: Option<&Path>) -> Result<Told, Failure> {
     let Given { value: sheet, text, notes, .. } = files::bag_sheet(path)?;
-    let told = match ylhovesko::bags::result(sheet) {
-        Ok(result) => {
-            let title = format!("Result of {}, class {}", files::name(path), sheet.class);
-            Told::accepted(format!("{title}\n\n{}", result_sheet::text(&sheet, &result)))
-        }
-        Err(refusal) => Told::refused(refusals::line(refusal, &bags::found(&text, refusal)) + "\n"),
+    let result = match ylhovesko::bags::result(sheet) {
+        Ok(result) => result,
+        Err(refusal) => return Ok(Told::refused(refusals::line(refusal, &bags::found(&text, refusal)) + "\n").noting(&notes)),
     };
-    Ok(told.noting(&notes))
+    if let Some(path) = csv {
+        files::write(path, &result_sheet::csv(&sheet, &result))?;
+    }
+    Ok(Told::accepted(result_sheet::text(&files::name(path), &sheet, &result)).noting(&notes))
 }
 
 pub fn check(given: &[OsString]) -> Result<Told, Failure> {
@@ -91,6 +93,6 @@ pub fn demo(given: &[OsString]) -> Result<Told, Failure> {
         told.add(gears::of_trace(&folder.join(trace), &vehicle, Outputs::default())?);
         told.add(Told::accepted("\n".to_string()));
     }
-    told.add(result_of(&folder.join("low_nox.bags"))?);
+    told.add(result_of(&folder.join("low_nox.bags"), None)?);
     Ok(told)
 }

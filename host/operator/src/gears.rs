@@ -60,11 +60,13 @@ fn of_bytes(title: &str, trace: &[u8], vehicle: &Given<Vehicle>, outputs: Output
     Ok(Told::accepted(format!("{title}\n\n{}", row::table(&row))).noting(&vehicle.notes))
 }
 
-/// The refusal of a row in words: it lies in the vehicle sheet, or in the trace.
-fn line(trace: &[u8], vehicle: &Given<Vehicle>, refusal: Refusal) -> String {
-    let found = match refusal.number {
-        5..=7 => vehicle::found(&vehicle.text, refusal),
-        _ => trace::found(trace, refusal),
-    };
+/// Whether the refusal of a row lies in the vehicle sheet; else it lies in the trace.
+pub fn is_of_vehicle(refusal: Refusal) -> bool {
+    (5..=7).contains(&refusal.number)
+}
+
+/// The refusal of a row in words.
+pub fn line(trace: &[u8], vehicle: &Given<Vehicle>, refusal: Refusal) -> String {
+    let found = if is_of_vehicle(refusal) { vehicle::found(&vehicle.text, refusal) } else { trace::found(trace, refusal) };
     refusals::line(refusal, &found)
 }

@@ -7,6 +7,8 @@ usage: ylhovesko-bench COMMAND ..
 
   gears TRACE VEHICLE    the gear and the clutch of each second of a trace
   result BAGSHEET        the result of a Type I test from its bag sheet
+  test VEHICLE TRACE.. BAGSHEET
+                         a whole test: one row of gears over all its parts, then its result
   check FILE..           whether traces and sheets are accepted, and if not, why and where
   preset FUEL DENSITY    the lines of a bag sheet that the fuel decides
   demo                   the gears and the result of the files of a folder
@@ -41,10 +43,12 @@ A vehicle sheet:
 ";
 
 pub const RESULT: &str = "\
-usage: ylhovesko-bench result BAGSHEET
+usage: ylhovesko-bench result BAGSHEET [--csv FILE]
 
 Prints volume, masses and rates of each part, the weighted result with its verdicts, and the fuel consumption. Each figure has two ends, and the
 exact one lies between them.
+
+  --csv FILE    writes every figure, with the limit and the verdict of a weighted gas
 
 A bag sheet:
   sheet = bags
@@ -66,6 +70,17 @@ A bag sheet:
   density hc = 577000       # mg per cubic metre; so for co, nox, co2
   bag hc = 12.5 ppm         # or 1.2 %, over range, not fitted; so for co, nox, co2
   air hc = 3.5 ppm          # the dilution air, likewise
+";
+
+pub const TEST: &str = "\
+usage: ylhovesko-bench test VEHICLE TRACE.. BAGSHEET [--csv FILE] [--svg FILE] [--result-csv FILE]
+
+A whole test: a vehicle sheet, the trace of each part in turn, and the bag sheet. Prints the gears of each part, which follow one another in one row,
+and then the result. A refusal of any of them names its file, and then nothing else is printed.
+
+  --csv FILE           writes every second of the row, as 'gears' does
+  --svg FILE           draws the whole row, as 'gears' does
+  --result-csv FILE    writes every figure, as 'result' does
 ";
 
 pub const CHECK: &str = "\

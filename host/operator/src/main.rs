@@ -18,6 +18,7 @@ mod row;
 mod sheet;
 mod trace;
 mod vehicle;
+mod whole_test;
 
 use std::ffi::OsString;
 use std::io::{self, ErrorKind, Write};
@@ -84,9 +85,10 @@ impl Told {
 type Command = fn(&[OsString]) -> Result<Told, Failure>;
 
 /// Each command with its help.
-const COMMANDS: [(&str, &str, Command); 5] = [
+const COMMANDS: [(&str, &str, Command); 6] = [
     ("gears", help::GEARS, gears::gears),
     ("result", help::RESULT, commands::result),
+    ("test", help::TEST, whole_test::test),
     ("check", help::CHECK, commands::check),
     ("preset", help::PRESET, preset::preset),
     ("demo", help::DEMO, commands::demo),

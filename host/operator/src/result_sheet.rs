@@ -42,12 +42,17 @@ fn part_lines(number: usize, part: PartResult) -> String {
     format!("{heading}\n  volume, ml\n{volume}\n{mass}{rate}\n")
 }
 
-fn verdict(verdict: Verdict) -> &'static str {
+fn word(verdict: Verdict) -> &'static str {
     match verdict {
         Verdict::Pass => "pass",
         Verdict::Fail => "fail",
-        Verdict::Undecided => "undecided: the limit lies between the ends",
+        Verdict::Undecided => "undecided",
     }
+}
+
+fn verdict(verdict: Verdict) -> String {
+    let why = if verdict == Verdict::Undecided { ": the limit lies between the ends" } else { "" };
+    format!("{}{why}", word(verdict))
 }
 
 fn weighted_lines(limits: Gases<u64>, result: &TestResult) -> String {
@@ -59,11 +64,41 @@ fn weighted_lines(limits: Gases<u64>, result: &TestResult) -> String {
     lines
 }
 
-/// The whole sheet.
-pub fn text(sheet: &Sheet, result: &TestResult) -> String {
-    let given = result.parts.iter().take(sheet.count as usize);
-    let parts: String = (1..).zip(given).map(|(number, part)| part_lines(number, *part)).collect();
+/// The figures of the parts that the class has.
+fn given_parts<'a>(sheet: &Sheet, result: &'a TestResult) -> impl Iterator<Item = &'a PartResult> {
+    result.parts.iter().take(sheet.count as usize)
+}
+
+/// The whole sheet, under the name of the bag sheet's file.
+pub fn text(name: &str, sheet: &Sheet, result: &TestResult) -> String {
+    let parts: String = (1..).zip(given_parts(sheet, result)).map(|(number, part)| part_lines(number, *part)).collect();
     let weighted = weighted_lines(sheet.limits, result);
     let fuel = format!("{}\n{}\n", heading("Fuel, microlitres per 100 km"), line("consumption", result.fuel));
-    format!("{parts}{weighted}\n{fuel}")
+    format!("Result of {name}, class {}\n\n{parts}{weighted}\n{fuel}", sheet.class)
+}
+
+/// A line of comma-separated values: the part and the gas where the figure has one, and the limit and the verdict of a weighted gas.
+fn csv_line(part: &str, figure: &str, gas: &str, ends: Ends, judged: &str) -> String {
+    format!("{part},{figure},{gas},{},{},{judged}\n", ends.lower, ends.upper)
+}
+
+fn csv_of_part(number: usize, part: PartResult) -> String {
+    let number = number.to_string();
+    let mut lines = csv_line(&number, "volume in ml", "", part.volume, ",");
+    for (figure, gases) in [("mass in micrograms", part.mass), ("rate in micrograms/km", part.rate)] {
+        let figures = GASES.iter().zip(gases.each());
+        lines.extend(figures.map(|(gas, ends)| csv_line(&number, figure, gas, ends, ",")));
+    }
+    lines
+}
+
+/// The result in comma-separated values, a line a figure.
+pub fn csv(sheet: &Sheet, result: &TestResult) -> String {
+    let mut lines = "part,figure,gas,lower end,upper end,limit,verdict\n".to_string();
+    lines.extend((1..).zip(given_parts(sheet, result)).map(|(number, part)| csv_of_part(number, *part)));
+    let told = result.weighted.each().into_iter().zip(sheet.limits.each()).zip(result.verdicts.each());
+    for (gas, ((ends, limit), judged)) in GASES.iter().zip(told) {
+        lines += &csv_line("", "weighted in micrograms/km", gas, ends, &format!("{limit},{}", word(judged)));
+    }
+    lines + &csv_line("", "fuel in microlitres per 100 km", "", result.fuel, ",")
 }

@@ -4,12 +4,10 @@ use crate::trace::{self, kilometres_an_hour};
 use ylhovesko::gear::{gears, Vehicle};
 use ylhovesko::Refusal;
 
-/// The most seconds of a trace.
-const LONGEST: usize = 2000;
-
 /// One second of the row.
 #[derive(Clone, Copy, Debug, PartialEq, Eq)]
 pub struct Second {
+    /// In its trace, from 1.
     pub number: usize,
     /// In 0.1 km/h.
     pub speed: u16,
@@ -19,17 +17,36 @@ pub struct Second {
     pub clutch_out: bool,
 }
 
+/// The seconds of a trace in turn.
+pub type Row = Vec<Second>;
+
 /// The row of a trace for a vehicle, or why the core gives none.
-pub fn row_of(trace: &[u8], vehicle: Vehicle) -> Result<Vec<Second>, Refusal> {
-    let mut buffer = vec![0; 2 * LONGEST];
-    gears(trace, vehicle, &mut buffer, 0)?;
-    // The core took the trace, so its length is that of its count of seconds.
-    let told = trace::seconds(trace).into_iter().zip(buffer.chunks_exact(2));
-    Ok((1..).zip(told).map(|(number, (second, pair))| second_of(number, second, pair)).collect())
+pub fn row_of(trace: &[u8], vehicle: Vehicle) -> Result<Row, Refusal> {
+    rows_of(&[trace], vehicle).map(|rows| rows.concat()).map_err(|(_, refusal)| refusal)
 }
 
-fn second_of(number: usize, second: trace::Second, pair: &[u8]) -> Second {
+/// The rows of the parts of a test, one after the other in one buffer; or the first part that the core refuses, from 0, and why.
+pub fn rows_of(traces: &[&[u8]], vehicle: Vehicle) -> Result<Vec<Row>, (usize, Refusal)> {
+    let parts: Vec<Vec<trace::Second>> = traces.iter().map(|trace| trace::seconds(trace)).collect();
+    let mut buffer = vec![0; parts.iter().map(|seconds| 2 * seconds.len()).sum()];
+    let mut start = 0;
+    for (part, trace) in traces.iter().enumerate() {
+        gears(trace, vehicle, &mut buffer, start).map_err(|refusal| (part, refusal))?;
+        // The core took the trace, so its seconds are as many as it counts.
+        start += 2 * parts[part].len();
+    }
+    let mut told = buffer.chunks_exact(2);
+    let row = |seconds: Vec<trace::Second>| (1..).zip(seconds.into_iter().zip(&mut told)).map(second_of).collect();
+    Ok(parts.into_iter().map(row).collect())
+}
+
+fn second_of((number, (second, pair)): (usize, (trace::Second, &[u8]))) -> Second {
     Second { number, speed: second.speed, phase: second.phase(), gear: pair[0], clutch_out: pair[1] == 1 }
+}
+
+/// The parts of a test as one row, whose seconds count through.
+pub fn joined(rows: &[Row]) -> Row {
+    (1..).zip(rows.iter().flatten()).map(|(number, second)| Second { number, ..*second }).collect()
 }
 
 pub fn clutch(out: bool) -> &'static str {
@@ -62,12 +79,22 @@ pub fn table(row: &[Second]) -> String {
     lines
 }
 
+/// What a second's line of comma-separated values has.
+const COLUMNS: &str = "second,speed in km/h,phase,gear,clutch";
+
+fn csv_line(second: &Second) -> String {
+    let Second { number, speed, phase, gear, clutch_out } = *second;
+    format!("{number},{},{phase},{gear},{}\n", kilometres_an_hour(speed), clutch(clutch_out))
+}
+
 /// The row in comma-separated values, a line a second.
 pub fn csv(row: &[Second]) -> String {
-    let mut lines = "second,speed in km/h,phase,gear,clutch\n".to_string();
-    for second in row {
-        let Second { number, speed, phase, gear, clutch_out } = *second;
-        lines += &format!("{number},{},{phase},{gear},{}\n", kilometres_an_hour(speed), clutch(clutch_out));
-    }
-    lines
+    format!("{COLUMNS}\n{}", row.iter().map(csv_line).collect::<String>())
+}
+
+/// The parts of a test likewise, each second with that of the test and its part before it.
+pub fn csv_of_parts(rows: &[Row]) -> String {
+    let parts = (1..).zip(rows).flat_map(|(part, row)| row.iter().map(move |second| (part, second)));
+    let lines = (1..).zip(parts).map(|(of_test, (part, second))| format!("{of_test},{part},{}", csv_line(second)));
+    format!("second of the test,part,{COLUMNS}\n{}", lines.collect::<String>())
 }

@@ -90,6 +90,11 @@ fn wrong_use() {
         &["gears", "--pair", "a", "b", "c", "--csv", "b"],
         &["result"],
         &["result", "a", "b"],
+        &["result", "a", "--csv", "a"],
+        &["test"],
+        &["test", "a"],
+        &["test", "a", "b", "c", "--csv", "b"],
+        &["test", "a", "b", "c", "--csv", "d", "--result-csv", "d"],
         &["check"],
         &["check", "--pair", "a"],
         &["preset", "petrol"],
@@ -111,7 +116,7 @@ fn wrong_use() {
 fn every_command_has_help() {
     let top = run(&["--help"]);
     assert_eq!((top.code, top.errors.as_str()), (Some(0), ""));
-    for command in ["gears", "result", "check", "preset", "demo"] {
+    for command in ["gears", "result", "test", "check", "preset", "demo"] {
         assert!(top.out.contains(&format!("\n  {command} ")), "{command}");
         let told = run(&[command, "--help"]);
         assert_eq!((told.code, told.errors.as_str()), (Some(0), ""));

@@ -1,0 +1,95 @@
+//! A whole test: the gears of its parts, one after the other in one row, and the result of its bags.
+
+use crate::arguments::Arguments;
+use crate::files::{self, Given};
+use crate::{bags, gears, picture, refusals, result_sheet, row, Failure, Told};
+use row::Row;
+use std::ffi::OsString;
+use std::path::{Path, PathBuf};
+use ylhovesko::bags::{Sheet as BagSheet, TestResult};
+use ylhovesko::gear::Vehicle;
+
+/// What a test is made of.
+struct Test {
+    vehicle: Given<Vehicle>,
+    /// The trace of each part, with its file.
+    traces: Vec<(PathBuf, Vec<u8>)>,
+    bags: Given<BagSheet>,
+}
+
+pub fn test(given: &[OsString]) -> Result<Told, Failure> {
+    let arguments = Arguments::of(given, &["--csv", "--svg", "--result-csv"], &[])?;
+    let [csv, svg, result_csv] = arguments.outputs(["--csv", "--svg", "--result-csv"])?;
+    let paths = arguments.paths();
+    let [vehicle, traces @ .., bags] = paths.as_slice() else {
+        return Err(Failure::usage("a vehicle sheet, a trace for each part and a bag sheet expected".to_string()));
+    };
+    let test = Test::read(vehicle, traces, bags)?;
+    let (rows, result) = match test.asked() {
+        Ok(told) => told,
+        Err(line) => return Ok(Told::refused(line + "\n").noting(&test.notes())),
+    };
+    test.has_a_trace_for_each_part()?;
+    if let Some(path) = csv {
+        files::write(path, &row::csv_of_parts(&rows))?;
+    }
+    if let Some(path) = svg {
+        files::write(path, &picture::svg(&test.title(), &row::joined(&rows)))?;
+    }
+    if let Some(path) = result_csv {
+        files::write(path, &result_sheet::csv(&test.bags.value, &result))?;
+    }
+    Ok(Told::accepted(test.text(&rows, &result)).noting(&test.notes()))
+}
+
+impl Test {
+    pub fn read(vehicle: &Path, traces: &[PathBuf], bags: &Path) -> Result<Test, Failure> {
+        let vehicle = files::vehicle(vehicle)?;
+        let read = |path: &PathBuf| Ok((path.clone(), files::read(path)?));
+        let traces = traces.iter().map(read).collect::<Result<_, _>>()?;
+        Ok(Test { vehicle, traces, bags: files::bag_sheet(bags)? })
+    }
+
+    /// The rows and the result; or the first refusal, with the file that it is of.
+    fn asked(&self) -> Result<(Vec<Row>, TestResult), String> {
+        let traces: Vec<&[u8]> = self.traces.iter().map(|(_, trace)| trace.as_slice()).collect();
+        let rows = row::rows_of(&traces, self.vehicle.value).map_err(|(part, refusal)| {
+            let (path, trace) = &self.traces[part];
+            let path = if gears::is_of_vehicle(refusal) { &self.vehicle.path } else { path };
+            format!("{}: {}", path.display(), gears::line(trace, &self.vehicle, refusal))
+        })?;
+        let result = ylhovesko::bags::result(self.bags.value).map_err(|refusal| {
+            let line = refusals::line(refusal, &bags::found(&self.bags.text, refusal));
+            format!("{}: {line}", self.bags.path.display())
+        })?;
+        Ok((rows, result))
+    }
+
+    fn has_a_trace_for_each_part(&self) -> Result<(), Failure> {
+        let (parts, given) = (self.bags.value.count as usize, self.traces.len());
+        if parts == given {
+            return Ok(());
+        }
+        Err(Failure::usage(format!("{parts} traces expected, one for each part of {}, {given} given", self.bags.path.display())))
+    }
+
+    fn title(&self) -> String {
+        format!("Test of {}, class {}", files::name(&self.vehicle.path), self.bags.value.class)
+    }
+
+    fn notes(&self) -> String {
+        format!("{}{}", self.vehicle.notes, self.bags.notes)
+    }
+
+    fn text(&self, rows: &[Row], result: &TestResult) -> String {
+        let mut text = self.title() + "\n\n";
+        let mut before = 0;
+        for (number, (row, (path, _))) in (1..).zip(rows.iter().zip(&self.traces)) {
+            let (first, last) = (before + 1, before + row.len());
+            let heading = format!("Part {number}, {}, seconds {first} to {last} of the test", files::name(path));
+            text += &format!("{heading}\n\n{}\n", row::table(row));
+            before = last;
+        }
+        text + &result_sheet::text(&files::name(&self.bags.path), &self.bags.value, result)
+    }
+}
