@@ -115,7 +115,7 @@ typedef struct {
     ylhovesko_reading co2;
 } ylhovesko_bag;
 
-/* Densities at the reference state: mg per cubic metre, 1 to 2,100,000 each. */
+/* Densities at the reference state, which is 20 degrees C and 101.325 kPa: mg per cubic metre, 1 to 2,100,000 each. */
 typedef struct {
     uint32_t hc;
     uint32_t co;
@@ -185,7 +185,7 @@ typedef struct {
 
 /* The figures of a part. */
 typedef struct {
-    ylhovesko_ends volume; /* of diluted gas, ml */
+    ylhovesko_ends volume; /* of diluted gas, ml at 20 degrees C and 101.325 kPa */
     ylhovesko_gases mass;  /* micrograms; below zero where the air had more than the bag */
     ylhovesko_gases rate;  /* micrograms/km */
 } ylhovesko_part_result;

@@ -106,7 +106,7 @@ pub struct Ends {
     pub upper: i64,
 }
 
-/// The figures of a part: ml, micrograms and micrograms/km.
+/// The figures of a part: ml at 20 degrees C and 101.325 kPa, micrograms and micrograms/km.
 #[repr(C)]
 #[derive(Clone, Copy, Debug, Default, PartialEq, Eq)]
 pub struct PartResult {

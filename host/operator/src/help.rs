@@ -46,7 +46,7 @@ pub const RESULT: &str = "\
 usage: ylhovesko-bench result BAGSHEET [--csv FILE]
 
 Prints volume, masses and rates of each part, the weighted result with its verdicts, and the fuel consumption. Each figure has two ends, and the
-exact one lies between them.
+exact one lies between them. Volumes are at 20 degrees C and 101.325 kPa, to which the densities belong.
 
   --csv FILE    writes every figure, with the limit and the verdict of a weighted gas
 
@@ -67,7 +67,7 @@ A bag sheet:
   humidity = 500            # 0.1 percent
   saturation = 3169         # saturation pressure, Pa
   distance = 4065           # m
-  density hc = 577000       # mg per cubic metre; so for co, nox, co2
+  density hc = 577000       # mg per cubic metre at 20 degrees C and 101.325 kPa; so for co, nox, co2
   bag hc = 12.5 ppm         # or 1.2 %, over range, not fitted; so for co, nox, co2
   air hc = 3.5 ppm          # the dilution air, likewise
 ";

@@ -3,6 +3,10 @@
 use crate::refusals::GASES;
 use ylhovesko::bags::{Ends, Gases, PartResult, Sheet, TestResult, Verdict};
 
+/// The state to which the core's volumes are brought, and to which a sheet's densities belong. The paper's formula is of 0 degrees, so that its volumes
+/// are about 7 % less; docs/DECISIONS.md says why the core has the regulation's.
+const REFERENCE: &str = "at 20 degrees C and 101.325 kPa";
+
 /// A number with a comma after each three digits, and a minus sign below zero.
 pub fn grouped(number: i128) -> String {
     let digits = number.unsigned_abs().to_string();
@@ -74,7 +78,7 @@ pub fn text(name: &str, sheet: &Sheet, result: &TestResult) -> String {
     let parts: String = (1..).zip(given_parts(sheet, result)).map(|(number, part)| part_lines(number, *part)).collect();
     let weighted = weighted_lines(sheet.limits, result);
     let fuel = format!("{}\n{}\n", heading("Fuel, microlitres per 100 km"), line("consumption", result.fuel));
-    format!("Result of {name}, class {}\n\n{parts}{weighted}\n{fuel}", sheet.class)
+    format!("Result of {name}, class {}\n{REFERENCE}\n\n{parts}{weighted}\n{fuel}", sheet.class)
 }
 
 /// A line of comma-separated values: the part and the gas where the figure has one, and the limit and the verdict of a weighted gas.
@@ -84,7 +88,7 @@ fn csv_line(part: &str, figure: &str, gas: &str, ends: Ends, judged: &str) -> St
 
 fn csv_of_part(number: usize, part: PartResult) -> String {
     let number = number.to_string();
-    let mut lines = csv_line(&number, "volume in ml", "", part.volume, ",");
+    let mut lines = csv_line(&number, &format!("volume in ml {REFERENCE}"), "", part.volume, ",");
     for (figure, gases) in [("mass in micrograms", part.mass), ("rate in micrograms/km", part.rate)] {
         let figures = GASES.iter().zip(gases.each());
         lines.extend(figures.map(|(gas, ends)| csv_line(&number, figure, gas, ends, ",")));

@@ -29,6 +29,15 @@ fn a_limit_between_the_ends_is_undecided() {
 }
 
 #[test]
+fn a_result_states_its_reference_state() {
+    let csv = to_be_made("reference.csv");
+    let told = run(&["result", &of_demo("low_nox.bags"), "--csv", &csv]);
+    assert!(told.out.starts_with("Result of low_nox.bags, class 3\nat 20 degrees C and 101.325 kPa\n\n"), "{}", told.out);
+    let lines = std::fs::read_to_string(csv).unwrap();
+    assert!(lines.contains("\n1,volume in ml at 20 degrees C and 101.325 kPa,,65108985,65108986,,\n"), "{lines}");
+}
+
+#[test]
 fn a_test_of_two_parts_has_two() {
     let text = edited("low_nox.bags", "class = 3", "class = 2");
     let path = stored("class2.bags", text.split("[part 3]").next().unwrap());
