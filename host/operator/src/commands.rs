@@ -5,6 +5,7 @@ use crate::files::{self, Given, Known};
 use crate::gears::Outputs;
 use crate::pair::Pair;
 use crate::refusals::Found;
+use crate::trace::Trace;
 use crate::{bags, gears, refusals, result_sheet, trace, vehicle, Failure, Told};
 use std::ffi::OsString;
 use std::path::Path;
@@ -37,10 +38,9 @@ pub fn check(given: &[OsString]) -> Result<Told, Failure> {
     let arguments = Arguments::of(given, &[], &["--pair"])?;
     if arguments.has("--pair") {
         let [normal, reduced] = arguments.exactly("a normal and a reduced trace")?;
-        return Ok(match Pair::read(&normal, &reduced)?.judged() {
-            Ok(line) => Told::accepted(line + "\n"),
-            Err(line) => Told::refused(line + "\n"),
-        });
+        let pair = Pair::read(&normal, &reduced)?;
+        let told = pair.judged().map_or_else(|line| Told::refused(line + "\n"), |line| Told::accepted(line + "\n"));
+        return Ok(told.noting(&pair.notes()));
     }
     let paths = arguments.paths();
     if paths.is_empty() {
@@ -63,11 +63,10 @@ fn judged_line(name: &str, judged: Result<(), Refusal>, found: impl Fn(Refusal) 
 
 fn judge(path: &Path) -> Result<Told, Failure> {
     let name = path.display().to_string();
-    if files::is_trace(path) {
-        let trace = files::read(path)?;
-        return Ok(judged_line(&name, judge_trace(&trace), |refusal| trace::found(&trace, refusal)));
-    }
     Ok(match files::known(path)? {
+        Known::Trace(Trace { bytes, notes, .. }) => {
+            judged_line(&name, judge_trace(&bytes), |refusal| trace::found(&bytes, refusal)).noting(&notes)
+        }
         Known::Vehicle(sheet) => {
             let judged = core_gears(&STOP, sheet.value, &mut [0; 2], 0);
             judged_line(&name, judged, |refusal| vehicle::found(&sheet.text, refusal)).noting(&sheet.notes)

@@ -1,9 +1,11 @@
 //! Files in and out, and what is said of one that cannot be read.
 
+use crate::kind::Kind;
 use crate::sheet::Sheet;
+use crate::trace::Trace;
 use crate::{bags, lines, vehicle, Failure};
 use std::fs::File;
-use std::io::Read;
+use std::io::{self, IsTerminal, Read, Write};
 use std::path::{Path, PathBuf};
 use ylhovesko::bags::Sheet as BagSheet;
 use ylhovesko::gear::Vehicle;
@@ -16,11 +18,6 @@ pub fn name(path: &Path) -> String {
     path.file_name().unwrap_or(path.as_os_str()).to_string_lossy().into_owned()
 }
 
-/// The file's kind is in its name: a trace is not text.
-pub fn is_trace(path: &Path) -> bool {
-    path.extension().is_some_and(|ending| ending.eq_ignore_ascii_case("wtr"))
-}
-
 pub fn read(path: &Path) -> Result<Vec<u8>, Failure> {
     let mut bytes = Vec::new();
     let read = File::open(path).and_then(|file| file.take(LONGEST + 1).read_to_end(&mut bytes));
@@ -30,8 +27,23 @@ pub fn read(path: &Path) -> Result<Vec<u8>, Failure> {
     }
 }
 
+fn written(path: &Path, done: io::Result<()>) -> Result<(), Failure> {
+    done.map_err(|error| Failure::of_file(path, &[format!("cannot be written: {error}")]))
+}
+
 pub fn write(path: &Path, text: &str) -> Result<(), Failure> {
-    std::fs::write(path, text).map_err(|error| Failure::of_file(path, &[format!("cannot be written: {error}")]))
+    written(path, std::fs::write(path, text))
+}
+
+/// A trace is no text, and a terminal would take its bytes for orders.
+pub fn write_trace(path: &Path, trace: &[u8]) -> Result<(), Failure> {
+    let write = |mut file: File| {
+        if file.is_terminal() {
+            return Err(io::Error::other("a trace is no text for a terminal"));
+        }
+        file.write_all(trace)
+    };
+    written(path, File::create(path).and_then(write))
 }
 
 /// Where a path leads. A file that is not there yet is known by its folder.
@@ -43,6 +55,14 @@ fn place(path: &Path) -> Option<PathBuf> {
 /// Whether two paths lead to one file.
 pub fn same(one: &Path, other: &Path) -> bool {
     one == other || place(one).is_some_and(|here| place(other) == Some(here))
+}
+
+/// A file is not made of itself.
+pub fn apart(read: &Path, made: &Path) -> Result<(), Failure> {
+    if same(read, made) {
+        return Err(Failure::usage(format!("'{}' is to be read and made", read.display())));
+    }
+    Ok(())
 }
 
 /// A sheet that was read: what the core gets, its text for the words of a refusal, and a line for each note on it.
@@ -58,35 +78,56 @@ fn given<T>(path: &Path, (value, text): (T, Sheet)) -> Given<T> {
     Given { path: path.to_path_buf(), value, text, notes }
 }
 
-/// The sheet in a file. One that is too long counts as empty, because a value at the cut would be another.
-fn sheet(path: &Path) -> Result<Sheet, Failure> {
-    let bytes = read(path)?;
-    if bytes.len() as u64 > LONGEST {
-        return Ok(Sheet::unread(format!("it is longer than {LONGEST} bytes")));
+/// The sheet in a file. One that is too long counts as empty, because a value at the cut would be another; so does what is no text, and a file that
+/// is known to be another than was asked for.
+fn sheet(bytes: &[u8], exchanged: Option<String>) -> Sheet {
+    let long = (bytes.len() as u64 > LONGEST).then(|| format!("it is longer than {LONGEST} bytes"));
+    let no_text = bytes.contains(&0).then(|| "it is no text: it has a zero byte".to_string());
+    match exchanged.or(long).or(no_text) {
+        Some(note) => Sheet::unread(note),
+        None => Sheet::read(bytes),
     }
-    Ok(Sheet::read(&bytes))
 }
 
 pub fn vehicle(path: &Path) -> Result<Given<Vehicle>, Failure> {
-    Ok(given(path, vehicle::vehicle_of(sheet(path)?)))
+    let bytes = read(path)?;
+    Ok(given(path, vehicle::vehicle_of(sheet(&bytes, Kind::Vehicle.exchanged(&bytes)))))
 }
 
 pub fn bag_sheet(path: &Path) -> Result<Given<BagSheet>, Failure> {
-    Ok(given(path, bags::bag_sheet_of(sheet(path)?)))
+    let bytes = read(path)?;
+    Ok(given(path, bags::bag_sheet_of(sheet(&bytes, Kind::Bags.exchanged(&bytes)))))
 }
 
-/// Either of the two sheets.
+pub fn trace(path: &Path) -> Result<Trace, Failure> {
+    Ok(trace_of(path, read(path)?))
+}
+
+fn trace_of(path: &Path, bytes: Vec<u8>) -> Trace {
+    let notes = Kind::Trace.exchanged(&bytes).map_or(String::new(), |note| lines(path, &[note]));
+    Trace { path: path.to_path_buf(), bytes, notes }
+}
+
+/// A trace or either of the two sheets.
 pub enum Known {
+    Trace(Trace),
     Vehicle(Box<Given<Vehicle>>),
     Bags(Box<Given<BagSheet>>),
 }
 
-/// The sheet in a file, of the kind that its first key names.
+/// What is in a file: a trace by its name or its mark, a sheet by its first key.
 pub fn known(path: &Path) -> Result<Known, Failure> {
-    let sheet = sheet(path)?;
-    match sheet.kind.as_deref() {
-        Some(vehicle::KIND) => Ok(Known::Vehicle(Box::new(given(path, vehicle::vehicle_of(sheet))))),
-        Some(bags::KIND) => Ok(Known::Bags(Box::new(given(path, bags::bag_sheet_of(sheet))))),
+    let bytes = read(path)?;
+    let kind = Kind::of(&bytes);
+    let named_trace = path.extension().is_some_and(|ending| ending.eq_ignore_ascii_case("wtr"));
+    if named_trace || kind == Some(Kind::Trace) {
+        return Ok(Known::Trace(trace_of(path, bytes)));
+    }
+    let sheet = sheet(&bytes, None);
+    match kind {
+        Some(Kind::Vehicle) => Ok(Known::Vehicle(Box::new(given(path, vehicle::vehicle_of(sheet))))),
+        Some(Kind::Bags) => Ok(Known::Bags(Box::new(given(path, bags::bag_sheet_of(sheet))))),
+        Some(Kind::Table) => Err(Failure::of_file(path, &["this is a cycle table, of which 'house-file' makes a trace".to_string()])),
         _ => Err(Failure::of_file(path, &sheet.notes_without_kind("neither 'sheet = vehicle' nor 'sheet = bags'"))),
     }
 }

@@ -33,12 +33,13 @@ pub fn gears(given: &[OsString]) -> Result<Told, Failure> {
 
 pub fn of_trace(path: &Path, vehicle: &Given<Vehicle>, outputs: Outputs) -> Result<Told, Failure> {
     let title = format!("Gears of {} for {}", files::name(path), files::name(&vehicle.path));
-    of_bytes(&title, &files::read(path)?, vehicle, outputs)
+    let trace = files::trace(path)?;
+    Ok(of_bytes(&title, &trace.bytes, vehicle, outputs)?.noting(&trace.notes))
 }
 
 pub fn of_pair(pair: &Pair, reduced_speed: bool, vehicle: &Given<Vehicle>, outputs: Outputs) -> Result<Told, Failure> {
     if let Err(line) = pair.judged() {
-        return Ok(Told::refused(line + "\n").noting(&vehicle.notes));
+        return Ok(Told::refused(line + "\n").noting(&vehicle.notes).noting(&pair.notes()));
     }
     let (path, trace) = pair.chosen(reduced_speed);
     let which = if reduced_speed { "reduced" } else { "normal" };

@@ -1,9 +1,12 @@
 //! What `--help` prints.
 
+/// Stands for the name by which the command was called.
+pub const NAME: &str = "NAME";
+
 pub const TOP: &str = "\
 The calculation core for motorcycle emission benches, for the operator.
 
-usage: ylhovesko-bench COMMAND ..
+usage: NAME COMMAND ..
 
   gears TRACE VEHICLE    the gear and the clutch of each second of a trace
   result BAGSHEET        the result of a Type I test from its bag sheet
@@ -11,9 +14,12 @@ usage: ylhovesko-bench COMMAND ..
                          a whole test: one row of gears over all its parts, then its result
   check FILE..           whether traces and sheets are accepted, and if not, why and where
   preset FUEL DENSITY    the lines of a bag sheet that the fuel decides
+  house-file TABLE TRACE a trace from a cycle table in comma-separated values
+  table TRACE TABLE      such a table from a trace
   demo                   the gears and the result of the files of a folder
+  help [COMMAND]         this, or more of a command; so do -h and --help
+  --version              the version
 
-COMMAND --help says more of a command.
 
 A sheet is a text of lines 'key = value'; what follows # is a comment. Its first key is 'sheet = vehicle' or 'sheet = bags'. Values are whole
 numbers, but for readings, in the units that the help of 'gears' and of 'result' gives.
@@ -22,8 +28,8 @@ exit: 0 accepted, 1 refused (the refusal is printed), 2 wrong use or a file that
 ";
 
 pub const GEARS: &str = "\
-usage: ylhovesko-bench gears TRACE VEHICLE [--csv FILE] [--svg FILE]
-       ylhovesko-bench gears --pair NORMAL REDUCED VEHICLE [--reduced] [--csv FILE] [--svg FILE]
+usage: NAME gears TRACE VEHICLE [--csv FILE] [--svg FILE]
+       NAME gears --pair NORMAL REDUCED VEHICLE [--reduced] [--csv FILE] [--svg FILE]
 
 Prints the gear and the clutch of a trace (a house file) for a vehicle sheet, a line for each run of seconds.
 
@@ -43,7 +49,7 @@ A vehicle sheet:
 ";
 
 pub const RESULT: &str = "\
-usage: ylhovesko-bench result BAGSHEET [--csv FILE]
+usage: NAME result BAGSHEET [--csv FILE]
 
 Prints volume, masses and rates of each part, the weighted result with its verdicts, and the fuel consumption. Each figure has two ends, and the
 exact one lies between them. Volumes are at 20 degrees C and 101.325 kPa, to which the densities belong.
@@ -73,7 +79,7 @@ A bag sheet:
 ";
 
 pub const TEST: &str = "\
-usage: ylhovesko-bench test VEHICLE TRACE.. BAGSHEET [--csv FILE] [--svg FILE] [--result-csv FILE]
+usage: NAME test VEHICLE TRACE.. BAGSHEET [--csv FILE] [--svg FILE] [--result-csv FILE]
 
 A whole test: a vehicle sheet, the trace of each part in turn, and the bag sheet. Prints the gears of each part, which follow one another in one row,
 and then the result. A refusal of any of them names its file, and then nothing else is printed.
@@ -84,23 +90,38 @@ and then the result. A refusal of any of them names its file, and then nothing e
 ";
 
 pub const CHECK: &str = "\
-usage: ylhovesko-bench check FILE..
-       ylhovesko-bench check --pair NORMAL REDUCED
+usage: NAME check FILE..
+       NAME check --pair NORMAL REDUCED
 
-Says of each file whether it is accepted, or the refusal with its place. A file whose name ends in .wtr is a trace, any other a sheet.
+Says of each file whether it is accepted, or the refusal with its place. A file is a trace where its name ends in .wtr or it begins with a trace's
+mark, any other a sheet.
 
   --pair    judges two traces as the normal and the reduced one of a cycle
 ";
 
 pub const PRESET: &str = "\
-usage: ylhovesko-bench preset petrol|diesel DENSITY
+usage: NAME preset petrol|diesel DENSITY
 
 Prints the lines of a bag sheet that the fuel decides: the dilution triple and the fuel sheet of the test, then the densities of each part. DENSITY
 is the fuel's, in g/l.
 ";
 
+pub const HOUSE_FILE: &str = "\
+usage: NAME house-file TABLE TRACE
+
+Makes a trace (a house file) from a cycle table: a heading 'second,speed_tenths,phase,no_gearshift,no_first', then a line for each second, with the
+phase as stop, acc, cruise or dec, and 0 or 1 for each of the two marks. A table of another form makes no file, nor does one that the core would
+refuse as a trace.
+";
+
+pub const TABLE: &str = "\
+usage: NAME table TRACE TABLE
+
+Makes a cycle table in comma-separated values from a trace; 'house-file' makes the same trace of it again.
+";
+
 pub const DEMO: &str = "\
-usage: ylhovesko-bench demo [--from FOLDER]
+usage: NAME demo [--from FOLDER]
 
 Prints the gears of the machine annex13.vehicle on the six traces part1_normal.wtr to part3_reduced.wtr, and the result of low_nox.bags.
 

@@ -9,6 +9,8 @@ mod field;
 mod files;
 mod gears;
 mod help;
+mod house_file;
+mod kind;
 mod pair;
 mod picture;
 mod preset;
@@ -85,27 +87,46 @@ impl Told {
 type Command = fn(&[OsString]) -> Result<Told, Failure>;
 
 /// Each command with its help.
-const COMMANDS: [(&str, &str, Command); 6] = [
+const COMMANDS: [(&str, &str, Command); 8] = [
     ("gears", help::GEARS, gears::gears),
     ("result", help::RESULT, commands::result),
     ("test", help::TEST, whole_test::test),
     ("check", help::CHECK, commands::check),
     ("preset", help::PRESET, preset::preset),
+    ("house-file", help::HOUSE_FILE, house_file::house_file),
+    ("table", help::TABLE, house_file::table),
     ("demo", help::DEMO, commands::demo),
 ];
 
+/// The name by which the command was called. The launcher hands on its own.
+fn typed() -> String {
+    let name = std::env::var_os("YLHOVESKO_TYPED").or(std::env::args_os().next());
+    name.map_or("ylhovesko".to_string(), |name| name.to_string_lossy().into_owned())
+}
+
+fn is_help(word: &OsString) -> bool {
+    ["help", "-h", "--help"].iter().any(|help| word == help)
+}
+
+fn helped(text: &str) -> Result<Told, Failure> {
+    Ok(Told::accepted(text.replace(help::NAME, &typed())))
+}
+
 fn answer(given: &[OsString]) -> Result<Told, Failure> {
-    let Some((command, rest)) = given.split_first() else {
+    let Some((first, rest)) = given.split_first() else {
         return Err(Failure::usage("no command given".to_string()));
     };
-    if command == "--help" {
-        return Ok(Told::accepted(help::TOP.to_string()));
+    if first == "--version" {
+        return Ok(Told::accepted(format!("ylhovesko {}\n", env!("CARGO_PKG_VERSION"))));
     }
+    let Some(command) = given.iter().take(2).find(|word| !is_help(word)) else {
+        return helped(help::TOP);
+    };
     let Some((_, help, run)) = COMMANDS.iter().find(|(name, _, _)| command == name) else {
         return Err(Failure::usage(format!("unknown command '{}'", command.to_string_lossy())));
     };
-    if rest.iter().any(|word| word == "--help") {
-        return Ok(Told::accepted(help.to_string()));
+    if is_help(first) || rest.iter().any(|word| word == "-h" || word == "--help") {
+        return helped(help);
     }
     run(rest)
 }

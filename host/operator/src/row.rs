@@ -41,7 +41,8 @@ pub fn rows_of(traces: &[&[u8]], vehicle: Vehicle) -> Result<Vec<Row>, (usize, R
 }
 
 fn second_of((number, (second, pair)): (usize, (trace::Second, &[u8]))) -> Second {
-    Second { number, speed: second.speed, phase: second.phase(), gear: pair[0], clutch_out: pair[1] == 1 }
+    let phase = ["stop", "acceleration", "cruise", "deceleration"][second.phase()];
+    Second { number, speed: second.speed, phase, gear: pair[0], clutch_out: pair[1] == 1 }
 }
 
 /// The parts of a test as one row, whose seconds count through.

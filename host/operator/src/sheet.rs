@@ -130,9 +130,14 @@ fn lowered(words: &str) -> String {
     words.split_whitespace().collect::<Vec<_>>().join(" ").to_ascii_lowercase()
 }
 
+/// The most of a sheet's own words that a note shows.
+const SHOWN: usize = 60;
+
 /// A sheet's own words in a note, in quotes; what would move a terminal's cursor is spelt out.
 fn quoted(words: &str) -> String {
-    format!("'{}'", words.escape_debug())
+    let shown: String = words.chars().take(SHOWN).collect();
+    let rest = if words.chars().nth(SHOWN).is_some() { " .." } else { "" };
+    format!("'{}'{rest}", shown.escape_debug())
 }
 
 /// A sheet as it is written.
@@ -176,13 +181,12 @@ impl Sheet {
         Sheet { unread: true, notes, ..Sheet::default() }
     }
 
-    /// The notes on a sheet whose first key is not the one that it should be.
+    /// The notes on a file whose first key is not the one that it should be: of what is no sheet no line is shown.
     pub fn notes_without_kind(self, is: &str) -> Vec<String> {
-        let mut notes = self.notes;
-        if !self.unread {
-            notes.push(format!("its first key is {is}"));
+        if self.unread {
+            return self.notes;
         }
-        notes
+        vec![format!("its first key is {is}")]
     }
 
     /// Nothing that an operator wrote is passed over, and nothing that he left out: what is no value of a known key is named.

@@ -1,14 +1,24 @@
-//! The bytes of a house file, to be shown: the core alone judges them.
+//! The bytes of a house file, to be made and to be shown: the core alone judges them.
 
 use crate::files::LONGEST;
 use crate::refusals::Found;
 use crate::result_sheet::grouped;
+use std::path::PathBuf;
 use ylhovesko::Refusal;
 
-/// The mark, the zero byte and the version that a trace begins with.
+/// The mark and the zero byte after it.
+pub const MARK: [u8; 4] = [b'W', b'T', b'R', 0];
+/// What a trace begins with: the mark and the version.
 const START: [u8; 6] = [b'W', b'T', b'R', 0, 1, 0];
 /// The start and the count of seconds.
 const HEAD: usize = 8;
+
+/// A trace that was read, with a line for each note on its file.
+pub struct Trace {
+    pub path: PathBuf,
+    pub bytes: Vec<u8>,
+    pub notes: String,
+}
 
 /// One second of a trace.
 #[derive(Clone, Copy)]
@@ -20,14 +30,39 @@ pub struct Second {
 }
 
 impl Second {
-    pub fn phase(self) -> &'static str {
-        ["stop", "acceleration", "cruise", "deceleration"][usize::from(self.flags & 3)]
+    pub fn of(speed: u16, phase: usize, no_shift: bool, no_first: bool) -> Second {
+        let flags = (phase as u8 & 3) | u8::from(no_shift) << 2 | u8::from(no_first) << 3;
+        Second { speed, flags, fourth: 0 }
+    }
+
+    /// 0 stop, 1 acceleration, 2 cruise, 3 deceleration.
+    pub fn phase(self) -> usize {
+        usize::from(self.flags & 3)
+    }
+
+    pub fn no_shift(self) -> bool {
+        self.flags & 4 != 0
+    }
+
+    pub fn no_first(self) -> bool {
+        self.flags & 8 != 0
     }
 }
 
 pub fn seconds(trace: &[u8]) -> Vec<Second> {
     let of = |bytes: &[u8]| Second { speed: u16::from_le_bytes([bytes[0], bytes[1]]), flags: bytes[2], fourth: bytes[3] };
     trace.get(HEAD..).unwrap_or(&[]).chunks_exact(4).map(of).collect()
+}
+
+/// The house file of these seconds, which are no more than it can count.
+pub fn house_file(seconds: &[Second]) -> Vec<u8> {
+    let mut file = START.to_vec();
+    file.extend((seconds.len() as u16).to_le_bytes());
+    for Second { speed, flags, fourth } in seconds {
+        file.extend(speed.to_le_bytes());
+        file.extend([flags, fourth]);
+    }
+    file
 }
 
 /// The count that a trace names, which may not be that of its seconds.

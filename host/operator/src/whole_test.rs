@@ -2,6 +2,7 @@
 
 use crate::arguments::Arguments;
 use crate::files::{self, Given};
+use crate::trace::Trace;
 use crate::{bags, gears, picture, refusals, result_sheet, row, Failure, Told};
 use row::Row;
 use std::ffi::OsString;
@@ -12,8 +13,8 @@ use ylhovesko::gear::Vehicle;
 /// What a test is made of.
 struct Test {
     vehicle: Given<Vehicle>,
-    /// The trace of each part, with its file.
-    traces: Vec<(PathBuf, Vec<u8>)>,
+    /// That of each part.
+    traces: Vec<Trace>,
     bags: Given<BagSheet>,
 }
 
@@ -45,18 +46,17 @@ pub fn test(given: &[OsString]) -> Result<Told, Failure> {
 impl Test {
     pub fn read(vehicle: &Path, traces: &[PathBuf], bags: &Path) -> Result<Test, Failure> {
         let vehicle = files::vehicle(vehicle)?;
-        let read = |path: &PathBuf| Ok((path.clone(), files::read(path)?));
-        let traces = traces.iter().map(read).collect::<Result<_, _>>()?;
+        let traces = traces.iter().map(|path| files::trace(path)).collect::<Result<_, _>>()?;
         Ok(Test { vehicle, traces, bags: files::bag_sheet(bags)? })
     }
 
     /// The rows and the result; or the first refusal, with the file that it is of.
     fn asked(&self) -> Result<(Vec<Row>, TestResult), String> {
-        let traces: Vec<&[u8]> = self.traces.iter().map(|(_, trace)| trace.as_slice()).collect();
+        let traces: Vec<&[u8]> = self.traces.iter().map(|trace| trace.bytes.as_slice()).collect();
         let rows = row::rows_of(&traces, self.vehicle.value).map_err(|(part, refusal)| {
-            let (path, trace) = &self.traces[part];
-            let path = if gears::is_of_vehicle(refusal) { &self.vehicle.path } else { path };
-            format!("{}: {}", path.display(), gears::line(trace, &self.vehicle, refusal))
+            let trace = &self.traces[part];
+            let path = if gears::is_of_vehicle(refusal) { &self.vehicle.path } else { &trace.path };
+            format!("{}: {}", path.display(), gears::line(&trace.bytes, &self.vehicle, refusal))
         })?;
         let result = ylhovesko::bags::result(self.bags.value).map_err(|refusal| {
             let line = refusals::line(refusal, &bags::found(&self.bags.text, refusal));
@@ -78,13 +78,14 @@ impl Test {
     }
 
     fn notes(&self) -> String {
-        format!("{}{}", self.vehicle.notes, self.bags.notes)
+        let traces: String = self.traces.iter().map(|trace| trace.notes.as_str()).collect();
+        format!("{}{traces}{}", self.vehicle.notes, self.bags.notes)
     }
 
     fn text(&self, rows: &[Row], result: &TestResult) -> String {
         let mut text = self.title() + "\n\n";
         let mut before = 0;
-        for (number, (row, (path, _))) in (1..).zip(rows.iter().zip(&self.traces)) {
+        for (number, (row, Trace { path, .. })) in (1..).zip(rows.iter().zip(&self.traces)) {
             let (first, last) = (before + 1, before + row.len());
             let heading = format!("Part {number}, {}, seconds {first} to {last} of the test", files::name(path));
             text += &format!("{heading}\n\n{}\n", row::table(row));

@@ -110,7 +110,11 @@ fn wrong_use() {
         &["preset", "coal", "750"],
         &["preset", "petrol", "-1"],
         &["preset", "petrol", "x"],
+        &["house-file", "a"],
+        &["house-file", "a", "b", "c"],
+        &["table", "a"],
         &["demo", "a"],
+        &["help", "row"],
     ] {
         let told = run(arguments);
         assert_eq!((told.out.as_str(), told.code), ("", Some(2)), "{arguments:?}");
@@ -121,14 +125,34 @@ fn wrong_use() {
     assert!(told.errors.starts_with("/nowhere/at/all/annex13.vehicle: cannot be read: "), "{}", told.errors);
 }
 
+const COMMANDS: [&str; 8] = ["gears", "result", "test", "check", "preset", "house-file", "table", "demo"];
+
 #[test]
 fn every_command_has_help() {
+    let typed = env!("CARGO_BIN_EXE_ylhovesko-bench");
     let top = run(&["--help"]);
     assert_eq!((top.code, top.errors.as_str()), (Some(0), ""));
-    for command in ["gears", "result", "test", "check", "preset", "demo"] {
+    assert!(top.out.contains(&format!("\nusage: {typed} COMMAND ..\n")), "{}", top.out);
+    for word in ["-h", "help"] {
+        assert_eq!(run(&[word]).out, top.out);
+    }
+    for command in COMMANDS {
         assert!(top.out.contains(&format!("\n  {command} ")), "{command}");
         let told = run(&[command, "--help"]);
         assert_eq!((told.code, told.errors.as_str()), (Some(0), ""));
-        assert!(told.out.starts_with(&format!("usage: ylhovesko-bench {command} ")), "{command}");
+        assert!(told.out.starts_with(&format!("usage: {typed} {command} ")), "{command}");
+        for other in [[command, "-h"], ["help", command], ["-h", command], ["--help", command]] {
+            assert_eq!(run(&other).out, told.out);
+        }
     }
+    let told = run(&["--version"]);
+    assert_eq!((told.out.as_str(), told.code), (concat!("ylhovesko ", env!("CARGO_PKG_VERSION"), "\n"), Some(0)));
+}
+
+/// The launcher hands on the name that was typed.
+#[test]
+fn help_shows_the_name_that_was_typed() {
+    let bench = env!("CARGO_BIN_EXE_ylhovesko-bench");
+    let done = std::process::Command::new(bench).args(["help", "gears"]).env("YLHOVESKO_TYPED", "./ylhovesko").output().unwrap();
+    assert!(done.stdout.starts_with(b"usage: ./ylhovesko gears TRACE "));
 }

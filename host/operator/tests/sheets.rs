@@ -250,7 +250,8 @@ fn what_is_no_sheet_has_no_value() {
     let damaged = [
         (nameless.into_bytes(), kind),
         (twice.into_bytes(), kind),
-        (demo_text("low_nox.bags").into_bytes(), kind),
+        (demo_text("low_nox.bags").into_bytes(), "this is a bag sheet, not a vehicle sheet"),
+        (demo_text("annex13.vehicle").encode_utf16().flat_map(u16::to_le_bytes).collect(), "it is no text: it has a zero byte"),
         (Vec::new(), kind),
         (vec![b's', 0xff], kind),
         (long.into_bytes(), "it is longer than 65536 bytes"),
@@ -262,7 +263,7 @@ fn what_is_no_sheet_has_no_value() {
             (told.out.as_str(), told.code),
             ("refused: 5 vehicle sheet out of range, field 1, power: no value; 1 to 3,000 in 0.1 kW\n", Some(1))
         );
-        assert!(told.errors.ends_with(&format!("{path}: {note}\n")), "{}", told.errors);
+        assert_eq!(told.errors, format!("{path}: {note}\n"));
     }
     let words = "refused: 10 class not 1 to 3, or wrong number of parts: class no value, parts 0; 1 or 2 with 2 parts, or 3 with 3\n";
     let told = run(&["result", demo().join("annex13.vehicle").to_str().unwrap()]);

@@ -5,15 +5,15 @@ mod common;
 use common::*;
 use std::fs;
 use std::path::Path;
-use std::process::Command;
+
+const CYCLES: [&str; 6] = ["part1_normal", "part1_reduced", "part2_normal", "part2_reduced", "part3_normal", "part3_reduced"];
 
 #[test]
 fn house_files_come_from_the_tables() {
-    for name in ["part1_normal", "part1_reduced", "part2_normal", "part2_reduced", "part3_normal", "part3_reduced"] {
-        let made = Path::new(env!("CARGO_TARGET_TMPDIR")).join(format!("{name}_made.wtr"));
-        let table = demo().join(format!("cycles/{name}.csv"));
-        let done = Command::new(env!("CARGO_BIN_EXE_house-file")).arg(table).arg(&made).status().unwrap();
-        assert!(done.success());
+    for name in CYCLES {
+        let made = to_be_made(&format!("{name}_made.wtr"));
+        let told = run(&["house-file", &of_demo(&format!("cycles/{name}.csv")), &made]);
+        assert_eq!((told.out, told.errors.as_str(), told.code), (format!("{made}: a trace of 600 seconds\n"), "", Some(0)));
         let made = fs::read(made).unwrap();
         for stored in ["demo", "crates/gear_figures/data"] {
             let file = demo().join("..").join(stored).join(format!("{name}.wtr"));
@@ -23,16 +23,107 @@ fn house_files_come_from_the_tables() {
 }
 
 #[test]
-fn a_malformed_table_makes_no_house_file() {
-    let heading = "second,speed_tenths,phase,no_gearshift,no_first\n";
-    let lines = ["2,0,stop,0,0", "1,-1,stop,0,0", "1,65536,stop,0,0", "1,0,halt,0,0", "1,0,stop,2,0", "1,0,stop,0", "1,0,stop,0,0,0", ""];
-    let texts = lines.map(|line| format!("{heading}{line}\n")).into_iter().chain(["1,0,stop,0,0\n".to_string()]);
-    let made = Path::new(env!("CARGO_TARGET_TMPDIR")).join("malformed_made.wtr");
-    for text in texts {
-        let table = stored("malformed.csv", &text);
-        let done = Command::new(env!("CARGO_BIN_EXE_house-file")).arg(table).arg(&made).output().unwrap();
-        assert_eq!((done.status.code(), made.exists()), (Some(2), false), "{text}");
+fn tables_come_from_the_traces() {
+    for name in CYCLES {
+        let made = to_be_made(&format!("{name}_made.csv"));
+        let told = run(&["table", &of_demo(&format!("{name}.wtr")), &made]);
+        assert_eq!((told.out, told.errors.as_str(), told.code), (format!("{made}: a table of 600 seconds\n"), "", Some(0)));
+        let table = demo_text(&format!("cycles/{name}.csv"));
+        assert!(fs::read_to_string(made).unwrap().lines().eq(table.lines()), "{name}");
     }
+}
+
+#[test]
+fn every_mark_comes_back() {
+    let seconds: Vec<u8> = (0..16).flat_map(|flags| [0xd0, 7, flags, 0]).collect();
+    let bytes = [b"WTR\0\x01\0\x10\0".as_slice(), &seconds].concat();
+    let (trace, table, again) = (stored("marks.wtr", &bytes), to_be_made("marks.csv"), to_be_made("marks_again.wtr"));
+    assert_eq!(run(&["table", &trace, &table]).code, Some(0));
+    assert_eq!(run(&["house-file", &table, &again]).code, Some(0));
+    assert_eq!(fs::read(again).unwrap(), bytes);
+}
+
+const HEADING: &str = "second,speed_tenths,phase,no_gearshift,no_first";
+
+#[test]
+fn a_malformed_table_makes_no_house_file() {
+    let lines = ["2,0,stop,0,0", "1,-1,stop,0,0", "1,65536,stop,0,0", "1,0,halt,0,0", "1,0,stop,2,0", "1,0,stop,0", "1,0,stop,0,0,0", ""];
+    let made = to_be_made("malformed_made.wtr");
+    for line in lines {
+        let table = stored("malformed.csv", format!("{HEADING}\n{line}\n"));
+        let told = run(&["house-file", &table, &made]);
+        let words = format!("{table}: line 2: '{line}', expected is '1,SPEED,PHASE,MARK,MARK' with phase stop, acc, cruise or dec\n");
+        assert_eq!((told.errors, told.code, Path::new(&made).exists()), (words, Some(2), false));
+    }
+    let table = stored("headless.csv", "1,0,stop,0,0\n");
+    let told = run(&["house-file", &table, &made]);
+    assert_eq!((told.errors, told.code), (format!("{table}: the first line is not '{HEADING}'\n"), Some(2)));
+}
+
+#[test]
+fn a_table_that_the_core_refuses_makes_no_house_file() {
+    let made = to_be_made("refused_made.wtr");
+    let refused = |name: &str, seconds: &str, words: &str| {
+        let table = stored(name, format!("\u{feff}{HEADING}\r\n{seconds}"));
+        let told = run(&["house-file", &table, &made]);
+        assert_eq!((told.out, told.code, Path::new(&made).exists()), (format!("{table}: refused: {words}\n"), Some(1), false));
+    };
+    refused("no_seconds.csv", "", "2 count not 1 to 2,000: 0");
+    let words = "second 1: speed 2,001, flags 0, fourth byte 0; 0 to 2,000 in 0.1 km/h, 0 to 15, 0";
+    refused("too_fast.csv", "1,2001,stop,0,0\r\n", &format!("4 speed, flags or fourth byte wrong, {words}"));
+}
+
+#[test]
+fn a_file_is_not_made_of_itself() {
+    let (table, trace) = (stored("itself.csv", demo_text("cycles/part1_normal.csv")), stored("itself.wtr", [0; 8]));
+    for arguments in [["house-file", &table, &table], ["table", &trace, &trace]] {
+        let told = run(&arguments);
+        let words = format!("'{}' is to be read and made; --help says how to use it\n", arguments[1]);
+        assert_eq!((told.out.as_str(), told.errors, told.code), ("", words, Some(2)));
+    }
+    assert_eq!(fs::read_to_string(table).unwrap(), demo_text("cycles/part1_normal.csv"));
+}
+
+/// A terminal is at hand where one can be opened.
+#[test]
+fn no_trace_goes_to_a_terminal() {
+    if fs::OpenOptions::new().write(true).open("/dev/ptmx").is_err() {
+        return;
+    }
+    let told = run(&["house-file", &of_demo("cycles/part1_normal.csv"), "/dev/ptmx"]);
+    let words = "/dev/ptmx: cannot be written: a trace is no text for a terminal\n";
+    assert_eq!((told.out.as_str(), told.errors.as_str(), told.code), ("", words, Some(2)));
+}
+
+#[test]
+fn exchanged_files_are_told() {
+    let (trace, vehicle, bags, table) =
+        (of_demo("part1_normal.wtr"), of_demo("annex13.vehicle"), of_demo("low_nox.bags"), of_demo("cycles/part1_normal.csv"));
+    let made = to_be_made("exchanged");
+    let noted = |arguments: &[&str], notes: &[(&str, &str)], code| {
+        let told = run(arguments);
+        let errors: String = notes.iter().map(|(path, note)| format!("{path}: this is {note}\n")).collect();
+        assert_eq!((told.errors, told.code), (errors, Some(code)));
+        assert!(told.out.is_ascii() && !told.out.contains('\0') && !Path::new(&made).exists(), "{}", told.out);
+    };
+    let both = [(vehicle.as_str(), "a vehicle sheet, not a trace"), (&trace, "a trace, not a vehicle sheet")];
+    noted(&["gears", &vehicle, &trace], &[both[1], both[0]], 1);
+    noted(&["gears", &table, &vehicle], &[(&table, "a cycle table, not a trace")], 1);
+    noted(&["gears", "--pair", &vehicle, &trace, &bags], &[(&bags, "a bag sheet, not a vehicle sheet"), both[0]], 1);
+    noted(&["result", &trace], &[(&trace, "a trace, not a bag sheet")], 1);
+    noted(&["result", &vehicle], &[(&vehicle, "a vehicle sheet, not a bag sheet")], 1);
+    noted(&["test", &trace, &vehicle, &bags], &[both[1], both[0]], 1);
+    noted(&["check", "--pair", &trace, &bags], &[(&bags, "a bag sheet, not a trace")], 1);
+    noted(&["house-file", &trace, &made], &[(&trace, "a trace, not a cycle table")], 2);
+    noted(&["table", &table, &made], &[(&table, "a cycle table, not a trace")], 1);
+    noted(&["check", &table], &[(&table, "a cycle table, of which 'house-file' makes a trace")], 2);
+}
+
+/// A trace is known by its mark, whatever its name.
+#[test]
+fn a_trace_by_another_name() {
+    let path = stored("trace.bin", fs::read(of_demo("part1_normal.wtr")).unwrap());
+    assert_eq!(run(&["check", &path]).out, format!("{path}: accepted\n"));
 }
 
 #[test]

@@ -18,7 +18,7 @@ pub struct Run {
 }
 
 pub fn run(arguments: &[&str]) -> Run {
-    let done = Command::new(env!("CARGO_BIN_EXE_ylhovesko-bench")).args(arguments).output().unwrap();
+    let done = Command::new(env!("CARGO_BIN_EXE_ylhovesko-bench")).args(arguments).env_remove("YLHOVESKO_TYPED").output().unwrap();
     let text = |bytes: Vec<u8>| String::from_utf8(bytes).unwrap();
     Run { out: text(done.stdout), errors: text(done.stderr), code: done.status.code() }
 }

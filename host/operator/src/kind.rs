@@ -1,0 +1,43 @@
+//! What a file is by its first bytes, for an operator who has exchanged two.
+
+use crate::sheet::Sheet;
+use crate::{bags, house_file, trace, vehicle};
+
+#[derive(Clone, Copy, PartialEq, Eq)]
+pub enum Kind {
+    Trace,
+    Vehicle,
+    Bags,
+    Table,
+}
+
+impl Kind {
+    pub fn of(bytes: &[u8]) -> Option<Kind> {
+        if bytes.starts_with(&trace::MARK) {
+            return Some(Kind::Trace);
+        }
+        if house_file::is_table(bytes) {
+            return Some(Kind::Table);
+        }
+        match Sheet::read(bytes).kind.as_deref() {
+            Some(vehicle::KIND) => Some(Kind::Vehicle),
+            Some(bags::KIND) => Some(Kind::Bags),
+            _ => None,
+        }
+    }
+
+    fn name(self) -> &'static str {
+        match self {
+            Kind::Trace => "a trace",
+            Kind::Vehicle => "a vehicle sheet",
+            Kind::Bags => "a bag sheet",
+            Kind::Table => "a cycle table",
+        }
+    }
+
+    /// What is said of a file that is known to be another than this one.
+    pub fn exchanged(self, bytes: &[u8]) -> Option<String> {
+        let other = Kind::of(bytes).filter(|other| *other != self)?;
+        Some(format!("this is {}, not {}", other.name(), self.name()))
+    }
+}
