@@ -36,7 +36,7 @@ Prints the gear and the clutch of a trace (a house file) for a vehicle sheet, a 
   --pair        takes the normal and the reduced trace of a cycle, judges both, and prints the gears of the one that the switch names
   --reduced     the bench's reduced-speed switch is on: the reduced trace of the pair
   --csv FILE    writes every second with its speed, phase, gear and clutch
-  --svg FILE    writes a picture of the speed over time, in the colour of the gear, with the seconds of the clutch out
+  --svg FILE    writes a picture of the speed over time, in the colour of the gear, with the gears as steps and the seconds of the clutch out
 
 A vehicle sheet:
   sheet = vehicle

@@ -1,15 +1,19 @@
-//! The row as a picture: the speed over time in the colour of its gear, and below it the seconds in which the clutch is out.
+//! The row as a picture: the speed over time in the colour of its gear, below it the gears as steps, and the seconds in which the clutch is out.
 
 use crate::row::Second;
 
 const WIDTH: f64 = 1200.0;
-const HEIGHT: f64 = 480.0;
+const HEIGHT: f64 = FOOT + 80.0;
 /// The edges of the field in which the speed is drawn.
 const LEFT: f64 = 70.0;
 const RIGHT: f64 = 1080.0;
 const TOP: f64 = 50.0;
 const BOTTOM: f64 = 400.0;
-/// The band of the clutch, between the field and its axis's numbers.
+/// The height of one gear among the steps: a gear is told by where it stands, also by those who see no colours and on grey paper.
+const STEP: f64 = 12.0;
+/// The lower edge of the steps, of which neutral is the lowest.
+const FOOT: f64 = BOTTOM + 10.0 + 9.0 * STEP;
+/// The height of a bar: of a gear's seconds, and of the clutch's between the steps and the numbers of the time axis.
 const BAND: f64 = 8.0;
 
 /// From neutral to gear 8; apart for eyes that do not see red and green apart.
@@ -74,12 +78,13 @@ fn axes(scale: &Scale) -> String {
         text += &words(LEFT - 10.0, scale.y(speed) + 4.0, "end", &speed.to_string());
     }
     for second in (0..).step_by(scale.tick()).map(f64::from).take_while(|second| *second <= scale.seconds) {
-        text += &line((scale.x(second), BOTTOM), (scale.x(second), BOTTOM + 18.0), "#444444");
-        text += &words(scale.x(second), BOTTOM + 32.0, "middle", &second.to_string());
+        text += &line((scale.x(second), FOOT), (scale.x(second), FOOT + 18.0), "#444444");
+        text += &words(scale.x(second), FOOT + 32.0, "middle", &second.to_string());
     }
     text += &line((LEFT, BOTTOM), (RIGHT, BOTTOM), "#444444");
     text += &line((LEFT, TOP), (LEFT, BOTTOM), "#444444");
-    text += &words((LEFT + RIGHT) / 2.0, BOTTOM + 56.0, "middle", "time, s");
+    text += &line((LEFT, FOOT), (RIGHT, FOOT), "#444444");
+    text += &words((LEFT + RIGHT) / 2.0, FOOT + 56.0, "middle", "time, s");
     text + &words(10.0, TOP - 14.0, "start", "speed, km/h")
 }
 
@@ -96,26 +101,47 @@ fn speeds(scale: &Scale, row: &[Second]) -> String {
     text
 }
 
-/// A bar for each run of seconds with the clutch out. The second n lasts from n - 1 to n.
+/// A bar over the seconds of a run. The second n lasts from n - 1 to n.
+fn run_bar(scale: &Scale, run: &[Second], y: f64, fill: &str) -> String {
+    let from = scale.x((run[0].number - 1) as f64);
+    bar(from, y, scale.x(run[run.len() - 1].number as f64) - from, fill)
+}
+
+/// The upper edge of a gear's bars.
+fn step(gear: u8) -> f64 {
+    FOOT - STEP * (f64::from(gear) + 1.0)
+}
+
+/// A bar for each run of one gear, on that gear's step.
+fn steps(scale: &Scale, row: &[Second]) -> String {
+    let names =
+        gears(row).map(|gear| words(LEFT - 10.0, step(gear) + BAND, "end", &if gear == 0 { "N".to_string() } else { gear.to_string() }));
+    let runs = row.chunk_by(|a, b| a.gear == b.gear);
+    let bars = runs.map(|run| run_bar(scale, run, step(run[0].gear), colour(run[0].gear)));
+    words(10.0, step(8) + BAND, "start", "gear") + &names.chain(bars).collect::<String>()
+}
+
+/// A bar for each run of seconds with the clutch out.
 fn clutch(scale: &Scale, row: &[Second]) -> String {
     let runs = row.chunk_by(|a, b| a.clutch_out == b.clutch_out).filter(|run| run[0].clutch_out);
-    let bars = runs.map(|run| {
-        let from = scale.x((run[0].number - 1) as f64);
-        bar(from, BOTTOM + 4.0, scale.x(run[run.len() - 1].number as f64) - from, "#222222")
-    });
-    bars.collect()
+    runs.map(|run| run_bar(scale, run, FOOT + 4.0, "#222222")).collect()
+}
+
+/// The gears of the row.
+fn gears(row: &[Second]) -> impl Iterator<Item = u8> + '_ {
+    (0..=8).filter(|gear| row.iter().any(|second| second.gear == *gear))
 }
 
 fn legend(row: &[Second]) -> String {
     let mut text = String::new();
     let mut y = TOP;
-    for gear in (0..=8).filter(|gear| row.iter().any(|second| second.gear == *gear)) {
+    for gear in gears(row) {
         let name = if gear == 0 { "neutral".to_string() } else { format!("gear {gear}") };
         text += &bar(RIGHT + 15.0, y, 20.0, colour(gear));
         text += &words(RIGHT + 42.0, y + 8.0, "start", &name);
         y += 20.0;
     }
-    text + &bar(RIGHT + 15.0, BOTTOM + 4.0, 20.0, "#222222") + &words(RIGHT + 42.0, BOTTOM + 12.0, "start", "clutch out")
+    text + &bar(RIGHT + 15.0, FOOT + 4.0, 20.0, "#222222") + &words(RIGHT + 42.0, FOOT + 12.0, "start", "clutch out")
 }
 
 /// A file's name may hold what means something else in a picture's text.
@@ -131,5 +157,5 @@ pub fn svg(title: &str, row: &[Second]) -> String {
          <rect width=\"{WIDTH}\" height=\"{HEIGHT}\" fill=\"white\"/>\n"
     );
     let title = words((LEFT + RIGHT) / 2.0, 22.0, "middle", &plain(title));
-    head + &title + &axes(&scale) + &speeds(&scale, row) + &clutch(&scale, row) + &legend(row) + "</svg>\n"
+    head + &title + &axes(&scale) + &speeds(&scale, row) + &steps(&scale, row) + &clutch(&scale, row) + &legend(row) + "</svg>\n"
 }

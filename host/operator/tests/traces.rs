@@ -219,6 +219,30 @@ fn gears_in_other_forms() {
     }
 }
 
+/// The value of an attribute of a picture's element.
+fn attribute<'a>(element: &'a str, name: &str) -> &'a str {
+    element.split_once(&format!(" {name}=\"")).unwrap().1.split_once('"').unwrap().0
+}
+
+/// Each gear has a step of its own, so that no colour is needed to tell it.
+#[test]
+fn gears_differ_by_more_than_colour() {
+    let (trace, vehicle) = (of_demo("part3_normal.wtr"), of_demo("annex13.vehicle"));
+    let (csv, svg) = (to_be_made("steps.csv"), to_be_made("steps.svg"));
+    assert_eq!(run(&["gears", &trace, &vehicle, "--csv", &csv, "--svg", &svg]).code, Some(0));
+    let row = fs::read_to_string(csv).unwrap();
+    let mut gears: Vec<&str> = row.lines().skip(1).map(|line| line.split(',').nth(3).unwrap()).collect();
+    gears.dedup();
+    let picture = fs::read_to_string(svg).unwrap();
+    // the bars beside those of the legend and of the clutch
+    let bars = picture.lines().filter(|line| line.starts_with("<rect x=") && !line.contains(" x=\"1095.0\"") && !line.contains("#222222"));
+    let steps: Vec<&str> = bars.map(|bar| attribute(bar, "y")).collect();
+    assert_eq!(steps.len(), gears.len());
+    for (gear, step) in gears.iter().zip(&steps) {
+        assert!(gears.iter().zip(&steps).all(|(other, its)| (gear == other) == (step == its)));
+    }
+}
+
 /// A row is never written over what it was made of, nor a picture over a table.
 #[test]
 fn outputs_are_no_inputs() {
