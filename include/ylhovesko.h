@@ -107,9 +107,12 @@ typedef struct {
     uint32_t bits;
 } ylhovesko_reading;
 
-/* The readings of one bag, or of its dilution air. */
+/*
+ * The readings of one bag, or of its dilution air. HC is in ppm (or percent) of carbon equivalent, which is a concentration in propane times 3: an
+ * analyser's reading in propane that is handed over as it is gives a third of the mass, and a pass that is none.
+ */
 typedef struct {
-    ylhovesko_reading hc;
+    ylhovesko_reading hc; /* carbon equivalent */
     ylhovesko_reading co;
     ylhovesko_reading nox;
     ylhovesko_reading co2;

@@ -49,7 +49,7 @@ impl Reading {
     }
 }
 
-/// A part of the bag sheet: its fields 1 to 9 and its readings.
+/// A part of the bag sheet: its fields 1 to 9 and its readings. HC is read in carbon equivalent, which is propane times 3.
 #[repr(C)]
 #[derive(Clone, Copy, Debug, Default, PartialEq, Eq)]
 pub struct Part {

@@ -74,8 +74,9 @@ A bag sheet:
   saturation = 3169         # saturation pressure, Pa
   distance = 4065           # m
   density hc = 577000       # mg per cubic metre at 20 degrees C and 101.325 kPa; so for co, nox, co2
-  bag hc = 12.5 ppm         # or 1.2 %, over range, not fitted; so for co, nox, co2
-  air hc = 3.5 ppm          # the dilution air, likewise
+  bag hc = 12.5 ppm         # of carbon equivalent: a reading in propane times 3
+  bag co = 88.6 ppm         # so for nox, co2; a reading may also be 1.2 %, over range, or not fitted
+  air hc = 3.5 ppm          # the dilution air, likewise; its hc of carbon equivalent too
 ";
 
 pub const TEST: &str = "\

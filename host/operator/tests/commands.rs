@@ -149,6 +149,14 @@ fn every_command_has_help() {
     assert_eq!((told.out.as_str(), told.code), (concat!("ylhovesko ", env!("CARGO_PKG_VERSION"), "\n"), Some(0)));
 }
 
+/// A reading of HC in propane would give a third of the mass.
+#[test]
+fn the_help_says_what_hc_is_read_in() {
+    let told = run(&["result", "--help"]).out;
+    let line = told.lines().find(|line| line.starts_with("  bag hc = ")).unwrap();
+    assert!(line.ends_with("# of carbon equivalent: a reading in propane times 3"), "{line}");
+}
+
 /// The launcher hands on the name that was typed.
 #[test]
 fn help_shows_the_name_that_was_typed() {
