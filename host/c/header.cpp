@@ -1,0 +1,18 @@
+// The header as C++ reads it: compiled by the gate and not run, since caller.c beside it calls each function.
+#include "ylhovesko.h"
+
+int main()
+{
+    const uint8_t stop[] = {'W', 'T', 'R', 0, 1, 0, 1, 0, 0, 0, 0, 0};
+    const ylhovesko_vehicle vehicle = {300, 200, 8000, 1200, 4, {20000, 12000, 9000, 7000, 0, 0, 0, 0}};
+    const ylhovesko_preset petrol = ylhovesko_petrol(750);
+    uint8_t row[2];
+    ylhovesko_bag_sheet sheet = {};
+
+    sheet.triple = petrol.triple;
+    sheet.fuel = petrol.fuel;
+    const ylhovesko_outcome gears = ylhovesko_gears(stop, sizeof stop, vehicle, row, sizeof row, 0);
+    const uint32_t chosen = ylhovesko_chosen(stop, sizeof stop, stop, sizeof stop, true);
+    const ylhovesko_test_result result = ylhovesko_result(sheet);
+    return gears.number == 0 && chosen == YLHOVESKO_REDUCED && result.verdict.hc != YLHOVESKO_PASS ? 0 : 1;
+}
