@@ -1,12 +1,15 @@
 /*
  * Ylhovesko: the calculation core for motorcycle emission benches, as C calls it.
  *
- * Link target/staticlib/libboundary.a, which `rt staticlib boundary` makes. It is x86-64 code, keeps nothing between calls, allocates nothing
- * and calls nothing but memset and memcpy, so any number of threads may call it at once. A call takes at most 8 KiB of stack.
+ * Link target/staticlib/libboundary.a, which `rt staticlib boundary` makes. It is x86-64 code: ELF, with the System V calling convention. It keeps
+ * nothing between calls, allocates nothing and calls nothing but memset and memcpy, so any number of threads may call it at once. A call takes at
+ * most 8 KiB of stack.
  *
  * Every function answers every input: a damaged file or sheet is refused with a number and a place, and on a refusal every buffer stays as it was
- * lent. The caller has to see to three things only, which no proof can: each pointer is not null, not even with length 0, and leads to as many
- * bytes as its length says; no buffer that is written overlaps anything else that is lent; a bool is 0 or 1.
+ * lent. The caller has to see to four things only, which no proof can: each pointer is not null, not even with length 0, and leads to as many
+ * bytes as its length says; no buffer that is written overlaps anything else that is lent; a bool is 0 or 1; floats are in the processor's default
+ * mode, in which denormals are not flushed to zero (a program that is linked with -ffast-math may have another, and a reading just below zero
+ * would be taken).
  */
 #ifndef YLHOVESKO_H
 #define YLHOVESKO_H
@@ -157,7 +160,7 @@ typedef struct {
     ylhovesko_bag air;
 } ylhovesko_part;
 
-/* The bag sheet of a Type I test. part[2] is read for class 3 alone. */
+/* The bag sheet of a Type I test. part[2] is used for class 3 alone. */
 typedef struct {
     uint32_t class_number; /* 1 to 3 */
     uint32_t parts;        /* how many are given: 2 for the classes 1 and 2, 3 for class 3 */

@@ -86,7 +86,7 @@ pub struct Fuel {
     pub density: u32,
 }
 
-/// The bag sheet of a test. `count` says how many parts are given; the third is read for class 3 alone.
+/// The bag sheet of a test. `count` says how many parts are given; the third is used for class 3 alone.
 #[repr(C)]
 #[derive(Clone, Copy, Debug, Default, PartialEq, Eq)]
 pub struct Sheet {
