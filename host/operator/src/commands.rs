@@ -2,10 +2,10 @@
 
 use crate::arguments::Arguments;
 use crate::files::{self, Given, Known};
-use crate::gears::Outputs;
 use crate::pair::Pair;
 use crate::refusals::Found;
 use crate::trace::Trace;
+use crate::whole_test::{self, Test};
 use crate::{bags, gears, refusals, result_sheet, trace, vehicle, Failure, Told};
 use std::ffi::OsString;
 use std::path::Path;
@@ -89,9 +89,16 @@ pub fn demo(given: &[OsString]) -> Result<Told, Failure> {
     let vehicle = files::vehicle(&folder.join("annex13.vehicle"))?;
     let mut told = Told::default();
     for trace in DEMO_TRACES {
-        told.add(gears::of_trace(&folder.join(trace), &vehicle, Outputs::default())?);
+        told.add(gears::of_trace(&folder.join(trace), &vehicle, gears::Outputs::default())?);
         told.add(Told::accepted("\n".to_string()));
     }
-    told.add(result_of(&folder.join("low_nox.bags"), None)?);
+    let bags = folder.join("low_nox.bags");
+    told.add(result_of(&bags, None)?);
+    told.add(Told::accepted("\n".to_string()));
+    let [normal, reduced, ..] = DEMO_TRACES.map(|name| folder.join(name));
+    told.add(gears::of_pair(&Pair::read(&normal, &reduced)?, true, &vehicle, gears::Outputs::default())?);
+    told.add(Told::accepted("\n".to_string()));
+    let normal = DEMO_TRACES.into_iter().step_by(2).map(|name| folder.join(name)).collect::<Vec<_>>();
+    told.add(Test::read(&vehicle.path, &normal, &bags)?.told(whole_test::Outputs::default())?);
     Ok(told)
 }

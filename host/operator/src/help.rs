@@ -8,18 +8,17 @@ The calculation core for motorcycle emission benches, for the operator.
 
 usage: NAME COMMAND ..
 
-  gears TRACE VEHICLE    the gear and the clutch of each second of a trace
-  result BAGSHEET        the result of a Type I test from its bag sheet
+  gears TRACE VEHICLE       the gear and the clutch of each second of a trace, or of one of a pair
+  result BAGSHEET           the result of a Type I test from its bag sheet
   test VEHICLE TRACE.. BAGSHEET
-                         a whole test: one row of gears over all its parts, then its result
-  check FILE..           whether traces and sheets are accepted, and if not, why and where
-  preset FUEL DENSITY    the lines of a bag sheet that the fuel decides
-  house-file TABLE TRACE a trace from a cycle table in comma-separated values
-  table TRACE TABLE      such a table from a trace
-  demo                   the gears and the result of the files of a folder
-  help [COMMAND]         this, or more of a command; so do -h and --help
-  --version              the version
-
+                            a whole test: one row of gears over all its parts, then its result
+  check FILE..              whether traces and sheets are accepted, and if not, why and where
+  preset FUEL DENSITY       the lines of a bag sheet that the fuel decides
+  house-file TABLE TRACE    a trace from a cycle table in comma-separated values
+  table TRACE TABLE         such a table from a trace
+  demo                      all of these on the files of a folder
+  help [COMMAND]            this, or more of a command with an example; so do -h and --help
+  --version                 the version
 
 A sheet is a text of lines 'key = value'; what follows # is a comment. Its first key is 'sheet = vehicle' or 'sheet = bags'. Values are whole
 numbers, but for readings, in the units that the help of 'gears' and of 'result' gives.
@@ -46,6 +45,10 @@ A vehicle sheet:
   idle = 1150       # idle speed, per minute
   gears = 6         # 3 to 8
   ndv 1 = 13366     # engine speed over road speed in gear 1, 0.01 per minute per km/h; and so on to the last gear
+
+For example:
+  NAME gears demo/part1_normal.wtr demo/annex13.vehicle --csv row.csv --svg row.svg
+  NAME gears --pair demo/part1_normal.wtr demo/part1_reduced.wtr demo/annex13.vehicle --reduced
 ";
 
 pub const RESULT: &str = "\
@@ -77,6 +80,9 @@ A bag sheet:
   bag hc = 12.5 ppm         # of carbon equivalent: a reading in propane times 3
   bag co = 88.6 ppm         # so for nox, co2; a reading may also be 1.2 %, over range, or not fitted
   air hc = 3.5 ppm          # the dilution air, likewise; its hc of carbon equivalent too
+
+For example:
+  NAME result demo/low_nox.bags --csv result.csv
 ";
 
 pub const TEST: &str = "\
@@ -88,6 +94,9 @@ and then the result. A refusal of any of them names its file, and then nothing e
   --csv FILE           writes every second of the row, as 'gears' does
   --svg FILE           draws the whole row, as 'gears' does
   --result-csv FILE    writes every figure, as 'result' does
+
+For example:
+  NAME test demo/annex13.vehicle demo/part1_normal.wtr demo/part2_normal.wtr demo/part3_normal.wtr demo/low_nox.bags --svg test.svg
 ";
 
 pub const CHECK: &str = "\
@@ -98,6 +107,10 @@ Says of each file whether it is accepted, or the refusal with its place. A file 
 mark, any other a sheet.
 
   --pair    judges two traces as the normal and the reduced one of a cycle
+
+For example:
+  NAME check demo/annex13.vehicle demo/low_nox.bags demo/part1_normal.wtr
+  NAME check --pair demo/part1_normal.wtr demo/part1_reduced.wtr
 ";
 
 pub const PRESET: &str = "\
@@ -105,6 +118,9 @@ usage: NAME preset petrol|diesel DENSITY
 
 Prints the lines of a bag sheet that the fuel decides: the dilution triple and the fuel sheet of the test, then the densities of each part. DENSITY
 is the fuel's, in g/l.
+
+For example:
+  NAME preset petrol 748
 ";
 
 pub const HOUSE_FILE: &str = "\
@@ -113,18 +129,28 @@ usage: NAME house-file TABLE TRACE
 Makes a trace (a house file) from a cycle table: a heading 'second,speed_tenths,phase,no_gearshift,no_first', then a line for each second, with the
 phase as stop, acc, cruise or dec, and 0 or 1 for each of the two marks. A table of another form makes no file, nor does one that the core would
 refuse as a trace.
+
+For example:
+  NAME house-file demo/cycles/part1_normal.csv part1_normal.wtr
 ";
 
 pub const TABLE: &str = "\
 usage: NAME table TRACE TABLE
 
 Makes a cycle table in comma-separated values from a trace; 'house-file' makes the same trace of it again.
+
+For example:
+  NAME table demo/part1_normal.wtr part1_normal.csv
 ";
 
 pub const DEMO: &str = "\
 usage: NAME demo [--from FOLDER]
 
-Prints the gears of the machine annex13.vehicle on the six traces part1_normal.wtr to part3_reduced.wtr, and the result of low_nox.bags.
+Prints, of the machine annex13.vehicle: its gears on the six traces part1_normal.wtr to part3_reduced.wtr, the result of low_nox.bags, its gears on
+the reduced trace of the pair of part 1, and the whole test of the three normal traces and low_nox.bags.
 
   --from FOLDER    where these files are; 'demo' where it is not given
+
+For example:
+  NAME demo
 ";

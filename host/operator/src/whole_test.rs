@@ -11,11 +11,19 @@ use ylhovesko::bags::{Sheet as BagSheet, TestResult};
 use ylhovesko::gear::Vehicle;
 
 /// What a test is made of.
-struct Test {
+pub struct Test {
     vehicle: Given<Vehicle>,
     /// That of each part.
     traces: Vec<Trace>,
     bags: Given<BagSheet>,
+}
+
+/// Where a test is written beside what is printed.
+#[derive(Default)]
+pub struct Outputs<'a> {
+    csv: Option<&'a Path>,
+    svg: Option<&'a Path>,
+    result_csv: Option<&'a Path>,
 }
 
 pub fn test(given: &[OsString]) -> Result<Told, Failure> {
@@ -25,22 +33,7 @@ pub fn test(given: &[OsString]) -> Result<Told, Failure> {
     let [vehicle, traces @ .., bags] = paths.as_slice() else {
         return Err(Failure::usage("a vehicle sheet, a trace for each part and a bag sheet expected".to_string()));
     };
-    let test = Test::read(vehicle, traces, bags)?;
-    let (rows, result) = match test.asked() {
-        Ok(told) => told,
-        Err(line) => return Ok(Told::refused(line + "\n").noting(&test.notes())),
-    };
-    test.has_a_trace_for_each_part()?;
-    if let Some(path) = csv {
-        files::write(path, &row::csv_of_parts(&rows))?;
-    }
-    if let Some(path) = svg {
-        files::write(path, &picture::svg(&test.title(), &row::joined(&rows)))?;
-    }
-    if let Some(path) = result_csv {
-        files::write(path, &result_sheet::csv(&test.bags.value, &result))?;
-    }
-    Ok(Told::accepted(test.text(&rows, &result)).noting(&test.notes()))
+    Test::read(vehicle, traces, bags)?.told(Outputs { csv, svg, result_csv })
 }
 
 impl Test {
@@ -48,6 +41,24 @@ impl Test {
         let vehicle = files::vehicle(vehicle)?;
         let traces = traces.iter().map(|path| files::trace(path)).collect::<Result<_, _>>()?;
         Ok(Test { vehicle, traces, bags: files::bag_sheet(bags)? })
+    }
+
+    pub fn told(&self, outputs: Outputs) -> Result<Told, Failure> {
+        let (rows, result) = match self.asked() {
+            Ok(told) => told,
+            Err(line) => return Ok(Told::refused(line + "\n").noting(&self.notes())),
+        };
+        self.has_a_trace_for_each_part()?;
+        if let Some(path) = outputs.csv {
+            files::write(path, &row::csv_of_parts(&rows))?;
+        }
+        if let Some(path) = outputs.svg {
+            files::write(path, &picture::svg(&self.title(), &row::joined(&rows)))?;
+        }
+        if let Some(path) = outputs.result_csv {
+            files::write(path, &result_sheet::csv(&self.bags.value, &result))?;
+        }
+        Ok(Told::accepted(self.text(&rows, &result)).noting(&self.notes()))
     }
 
     /// The rows and the result; or the first refusal, with the file that it is of.

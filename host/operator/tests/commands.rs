@@ -149,6 +149,33 @@ fn every_command_has_help() {
     assert_eq!((told.out.as_str(), told.code), (concat!("ylhovesko ", env!("CARGO_PKG_VERSION"), "\n"), Some(0)));
 }
 
+/// The examples of a command's help, without the name that was typed.
+fn examples(help: &str) -> Vec<Vec<&str>> {
+    let after = help.split_once("\nFor example:\n").unwrap().1;
+    after.lines().map(|line| line.split_whitespace().skip(1).collect()).collect()
+}
+
+/// Each example of the help is run where demo/ is at hand, and is accepted.
+#[test]
+fn every_command_has_an_example_that_runs() {
+    let folder = std::path::Path::new(env!("CARGO_TARGET_TMPDIR")).join("examples");
+    let _ = std::fs::remove_dir_all(&folder);
+    std::fs::create_dir(&folder).unwrap();
+    std::os::unix::fs::symlink(demo().canonicalize().unwrap(), folder.join("demo")).unwrap();
+    for command in COMMANDS {
+        let help = run(&["help", command]).out;
+        for example in examples(&help) {
+            let done =
+                std::process::Command::new(env!("CARGO_BIN_EXE_ylhovesko-bench")).args(&example).current_dir(&folder).output().unwrap();
+            assert_eq!((example[0], done.stderr.as_slice(), done.status.code()), (command, &b""[..], Some(0)), "{example:?}");
+            assert!(!done.stdout.is_empty());
+        }
+    }
+    for made in ["row.csv", "row.svg", "result.csv", "test.svg", "part1_normal.wtr", "part1_normal.csv"] {
+        assert!(folder.join(made).exists(), "{made}");
+    }
+}
+
 /// A reading of HC in propane would give a third of the mass.
 #[test]
 fn the_help_says_what_hc_is_read_in() {
