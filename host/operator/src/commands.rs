@@ -8,7 +8,7 @@ use crate::trace::Trace;
 use crate::whole_test::{self, Test};
 use crate::{bags, gears, refusals, result_sheet, trace, vehicle, Failure, Told};
 use std::ffi::OsString;
-use std::path::Path;
+use std::path::{Path, PathBuf};
 use ylhovesko::gear::{gears as core_gears, judge_trace};
 use ylhovesko::Refusal;
 
@@ -87,18 +87,15 @@ pub fn demo(given: &[OsString]) -> Result<Told, Failure> {
     let [] = arguments.exactly("no file")?;
     let folder = arguments.option("--from").unwrap_or(Path::new("demo"));
     let vehicle = files::vehicle(&folder.join("annex13.vehicle"))?;
-    let mut told = Told::default();
-    for trace in DEMO_TRACES {
-        told.add(gears::of_trace(&folder.join(trace), &vehicle, gears::Outputs::default())?);
-        told.add(Told::accepted("\n".to_string()));
-    }
+    let traces = DEMO_TRACES.map(|name| folder.join(name));
     let bags = folder.join("low_nox.bags");
-    told.add(result_of(&bags, None)?);
-    told.add(Told::accepted("\n".to_string()));
-    let [normal, reduced, ..] = DEMO_TRACES.map(|name| folder.join(name));
-    told.add(gears::of_pair(&Pair::read(&normal, &reduced)?, true, &vehicle, gears::Outputs::default())?);
-    told.add(Told::accepted("\n".to_string()));
-    let normal = DEMO_TRACES.into_iter().step_by(2).map(|name| folder.join(name)).collect::<Vec<_>>();
-    told.add(Test::read(&vehicle.path, &normal, &bags)?.told(whole_test::Outputs::default())?);
-    Ok(told)
+    let mut shown = Vec::new();
+    for trace in &traces {
+        shown.push(gears::of_trace(trace, &vehicle, gears::Outputs::default())?);
+    }
+    shown.push(result_of(&bags, None)?);
+    shown.push(gears::of_pair(&Pair::read(&traces[0], &traces[1])?, true, &vehicle, gears::Outputs::default())?);
+    let normal: Vec<PathBuf> = traces.iter().step_by(2).cloned().collect();
+    shown.push(Test::read(&vehicle.path, &normal, &bags)?.told(whole_test::Outputs::default())?);
+    Ok(Told::apart(shown))
 }

@@ -7,6 +7,7 @@ use crate::arguments::Arguments;
 use crate::files::{self, LONGEST};
 use crate::kind::Kind;
 use crate::refusals::line;
+use crate::sheet::quoted;
 use crate::trace::{self, Second};
 use crate::{Failure, Told};
 use std::ffi::OsString;
@@ -52,9 +53,9 @@ fn seconds_of(table: &str) -> Result<Vec<Second>, String> {
     for line in lines {
         count = count.checked_add(1).ok_or("more seconds than a house file can count")?;
         let expected = || {
-            let found = line.escape_debug();
+            let found = quoted(line);
             format!(
-                "line {}: '{found}', expected is '{count},SPEED,PHASE,MARK,MARK' with phase stop, acc, cruise or dec",
+                "line {}: {found}, expected is '{count},SPEED,PHASE,MARK,MARK' with phase stop, acc, cruise or dec",
                 usize::from(count) + 1
             )
         };

@@ -76,6 +76,18 @@ impl Told {
         self
     }
 
+    /// All of them, with an empty line between two.
+    pub fn apart(all: Vec<Told>) -> Told {
+        let mut told = Told::default();
+        for (at, next) in all.into_iter().enumerate() {
+            if at > 0 {
+                told.text += "\n";
+            }
+            told.add(next);
+        }
+        told
+    }
+
     /// Puts another's words behind these; the graver code counts.
     pub fn add(&mut self, other: Told) {
         self.text += &other.text;

@@ -44,7 +44,7 @@ impl Section {
     /// A value as it is written, a whole number in groups of digits.
     pub fn told(&self, key: &Key) -> String {
         let written = self.value(&key.name).filter(|value| is_readable(value, &key.form));
-        written.map_or("no value".to_string(), |value| value.parse().map_or(lowered(value), grouped))
+        written.map_or("no value".to_string(), |value| whole_of(value).map_or(lowered(value), grouped))
     }
 
     /// `3,001; 1 to 3,000 in 0.1 kW`.
@@ -54,20 +54,23 @@ impl Section {
 
     /// Whether the key's whole number lies in its range, for the choice of the one that is shown.
     pub fn in_range(&self, key: &Key) -> bool {
-        let number = self.value(&key.name).and_then(|value| value.parse().ok());
-        matches!(key.form, Form::Whole(range) if number.is_some_and(|number| range.has(number)))
+        matches!(key.form, Form::Whole(range) if self.whole(&key.name).is_some_and(|number| range.has(number)))
+    }
+
+    fn whole(&self, key: &str) -> Option<i128> {
+        self.value(key).and_then(whole_of)
     }
 
     pub fn unsigned(&self, key: &str) -> u32 {
-        self.value(key).and_then(|value| value.parse().ok()).unwrap_or(NO_UNSIGNED)
+        self.whole(key).and_then(|number| number.try_into().ok()).unwrap_or(NO_UNSIGNED)
     }
 
     pub fn limit(&self, key: &str) -> u64 {
-        self.value(key).and_then(|value| value.parse().ok()).unwrap_or(NO_LIMIT)
+        self.whole(key).and_then(|number| number.try_into().ok()).unwrap_or(NO_LIMIT)
     }
 
     pub fn temperature(&self, key: &str) -> i32 {
-        self.value(key).and_then(|value| value.parse().ok()).unwrap_or(NO_TEMPERATURE)
+        self.whole(key).and_then(|number| number.try_into().ok()).unwrap_or(NO_TEMPERATURE)
     }
 
     pub fn reading(&self, key: &str) -> Reading {
@@ -100,9 +103,14 @@ impl Section {
 fn is_readable(value: &str, form: &Form) -> bool {
     match form {
         Form::Kind => true,
-        Form::Whole(_) => value.parse::<i128>().is_ok(),
+        Form::Whole(_) => whole_of(value).is_some(),
         Form::Reading => reading_of(value).is_some(),
     }
+}
+
+/// A whole number with more room than any field has, so that one that no field takes can still be shown.
+fn whole_of(value: &str) -> Option<i128> {
+    value.parse().ok()
 }
 
 /// `12.5 ppm`, `1.2 %`, `over range` or `not fitted`.
@@ -130,14 +138,14 @@ fn lowered(words: &str) -> String {
     words.split_whitespace().collect::<Vec<_>>().join(" ").to_ascii_lowercase()
 }
 
-/// The most of a sheet's own words that a note shows.
+/// The most of a file's own words that a note shows.
 const SHOWN: usize = 60;
 
-/// A sheet's own words in a note, in quotes; what would move a terminal's cursor is spelt out.
-fn quoted(words: &str) -> String {
+/// A file's own words in a note, in quotes; what would move a terminal's cursor is spelt out, and what is no text is a question mark.
+pub fn quoted(words: &str) -> String {
     let shown: String = words.chars().take(SHOWN).collect();
     let rest = if words.chars().nth(SHOWN).is_some() { " .." } else { "" };
-    format!("'{}'{rest}", shown.escape_debug())
+    format!("'{}'{rest}", shown.replace('\u{fffd}', "?").escape_debug())
 }
 
 /// A sheet as it is written.
@@ -189,7 +197,7 @@ impl Sheet {
         vec![format!("its first key is {is}")]
     }
 
-    /// Nothing that an operator wrote is passed over, and nothing that he left out: what is no value of a known key is named.
+    /// Nothing that was written is passed over, and nothing that was left out: what is no value of a known key is named.
     pub fn note_keys(&mut self, head: &[Key], section: &[Key]) {
         if self.unread {
             return;

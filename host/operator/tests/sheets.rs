@@ -108,6 +108,15 @@ fn malformed_values_of_a_bag_sheet() {
     malformed_values_are_named("low_nox.bags", "11 bag sheet value", &BAGS);
 }
 
+/// A whole number is read as it is told: with a sign, or zeros before it.
+#[test]
+fn whole_numbers_in_other_words() {
+    for value in ["-0", "+0", "000"] {
+        let path = stored("zero.bags", edited("low_nox.bags", "depression = 1450", &format!("depression = {value}")));
+        assert_eq!(run(&["check", &path]).out, format!("{path}: accepted\n"), "{value}");
+    }
+}
+
 #[test]
 fn values_too_large_for_their_type() {
     let large = "5 vehicle sheet out of range, field 4, idle: 4,294,968,446; 300 to 3,000 per minute";
@@ -230,6 +239,10 @@ fn what_a_sheet_does_not_know_is_named() {
         told.out
     );
     assert!(told.errors.contains(": line 2: a byte that is no UTF-8 text\n"), "{}", told.errors);
+    assert!(told.errors.contains(": line 2: 'power' is '72?', expected is "), "{}", told.errors);
+    let long = edited("annex13.vehicle", "power = 720", &format!("power = {}", "x".repeat(61)));
+    let told = run(&["check", &stored("long.vehicle", long)]);
+    assert!(told.errors.contains(&format!(": line 3: 'power' is '{}' .., expected is ", "x".repeat(60))), "{}", told.errors);
     accepted_with_note("bench.bags", bags("class = 3", "class = 3\nbench = 7"), "line 5: unknown key 'bench'");
     accepted_with_note("five.vehicle", vehicle("gears = 6", "gears = 5"), "'ndv 6' is past the last gear, 5, and is not read");
 }
