@@ -23,6 +23,17 @@ extern "C" {
 #endif
 
 /*
+ * The version of this header: of its structs and of what they mean. It is raised by every change of either. Structs cross by value, so a header over an
+ * archive of another version would misread them in silence; a program compares the two as it starts:
+ *
+ *     if (ylhovesko_version() != YLHOVESKO_VERSION) return EXIT_FAILURE;
+ */
+#define YLHOVESKO_VERSION 2u
+
+/* The version of the archive. */
+uint32_t ylhovesko_version(void);
+
+/*
  * What a function says of its input. number is 0 where all was accepted, and then the other three are 0 too. Else it is a row of this table, and
  * the lowest number that applies; within a number it is the first place. Seconds and gears count from 1.
  *

@@ -86,6 +86,10 @@ int main(void)
     ylhovesko_vehicle vehicle = {300, 200, 8000, 1200, 4, {20000, 12000, 9000, 7000, 0, 0, 0, 0}};
     ylhovesko_vehicle rising = vehicle;
 
+    if (ylhovesko_version() != YLHOVESKO_VERSION) {
+        printf("caller: the archive has version %u, the header %u\n", (unsigned)ylhovesko_version(), (unsigned)YLHOVESKO_VERSION);
+        return 1;
+    }
     memset(buffer, 7, sizeof buffer);
     expect("the row's outcome", is(ylhovesko_gears(normal, sizeof normal, vehicle, buffer, sizeof buffer, 1), 0, 0));
     expect("the row", memcmp(buffer, written, sizeof buffer) == 0);

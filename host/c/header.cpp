@@ -14,5 +14,5 @@ int main()
     const ylhovesko_outcome gears = ylhovesko_gears(stop, sizeof stop, vehicle, row, sizeof row, 0);
     const uint32_t chosen = ylhovesko_chosen(stop, sizeof stop, stop, sizeof stop, true);
     const ylhovesko_test_result result = ylhovesko_result(sheet);
-    return gears.number == 0 && chosen == YLHOVESKO_REDUCED && result.verdict.hc != YLHOVESKO_PASS ? 0 : 1;
+    return ylhovesko_version() == YLHOVESKO_VERSION && gears.number == 0 && chosen == YLHOVESKO_REDUCED && result.verdict.hc != YLHOVESKO_PASS ? 0 : 1;
 }

@@ -2,6 +2,7 @@
  * The core behind two pipes, for a host that cannot link x86-64 code (host/core/src/piped.rs). It reads calls from standard input until that
  * ends, and answers each on standard output, all numbers as they stand in memory:
  *
+ *   'v'                                 ->  version (32 bits)
  *   'g' trace, vehicle, buffer, start   ->  outcome, the buffer's bytes
  *   'p' normal, reduced                 ->  outcome
  *   'c' normal, reduced, switch (1 byte) -> which one (32 bits)
@@ -36,6 +37,13 @@ static int take_slice(struct slice *s)
 static int give(const void *from, size_t length)
 {
     return fwrite(from, 1, length, stdout) == length;
+}
+
+static int version(void)
+{
+    const uint32_t v = ylhovesko_version();
+
+    return give(&v, sizeof v);
 }
 
 static int gears(void)
@@ -97,6 +105,8 @@ static int preset(void)
 static int answer(int call)
 {
     switch (call) {
+    case 'v':
+        return version();
     case 'g':
         return gears();
     case 'p':
@@ -116,6 +126,9 @@ int main(void)
 {
     int call;
 
+    /* the structs above are those of the header that this was compiled with */
+    if (ylhovesko_version() != YLHOVESKO_VERSION)
+        return 1;
     while ((call = getchar()) != EOF) {
         if (!answer(call) || fflush(stdout) != 0)
             return 1;

@@ -14,6 +14,8 @@ import sys
 
 LIBRARY = pathlib.Path(__file__).resolve().parents[1] / "target" / "libylhovesko.so"
 
+VERSION = 2  # of the header after which the types here are written
+
 UNSIGNED = ctypes.c_uint32
 GASES = ["hc", "co", "nox", "co2"]
 
@@ -47,6 +49,9 @@ TestResult = record("TestResult", outcome=Outcome, part=PartResult * 3, weighted
 def library():
     """The core, with what its functions take and give: ctypes knows neither."""
     core = ctypes.CDLL(str(LIBRARY))
+    core.ylhovesko_version.restype = UNSIGNED
+    if core.ylhovesko_version() != VERSION:
+        sys.exit(f"{LIBRARY} has version {core.ylhovesko_version()}, and this example is for {VERSION}")
     core.ylhovesko_result.argtypes = [BagSheet]
     core.ylhovesko_result.restype = TestResult
     return core

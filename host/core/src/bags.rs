@@ -2,7 +2,7 @@
 //!
 //! The types are those of include/ylhovesko.h, which has the units and ranges.
 
-use crate::{calls, Outcome, Refusal};
+use crate::{agreed, calls, Outcome, Refusal};
 
 /// One thing for each gas.
 #[repr(C)]
@@ -191,6 +191,7 @@ pub(crate) struct Figures {
 /// assert_eq!(result(Sheet { count: 3, ..sheet }).unwrap_err().number, 10);
 /// ```
 pub fn result(sheet: Sheet) -> Result<TestResult, Refusal> {
+    agreed();
     let TestOutcome { outcome, figures } = calls::result(sheet);
     if let Err(refusal) = outcome.told() {
         assert_eq!(figures, Figures::default(), "a refused sheet has no figures");
@@ -216,6 +217,7 @@ pub struct Preset {
 /// assert_eq!((petrol.density.hc, petrol.triple.d, petrol.fuel.k, petrol.fuel.density), (577_000, 134, 1155, 750));
 /// ```
 pub fn petrol(fuel_density: u32) -> Preset {
+    agreed();
     calls::petrol(fuel_density)
 }
 
@@ -226,5 +228,6 @@ pub fn petrol(fuel_density: u32) -> Preset {
 /// assert_eq!((diesel.density.hc, diesel.triple.d, diesel.fuel.k, diesel.fuel.hc), (579_000, 133, 1160, 862));
 /// ```
 pub fn diesel(fuel_density: u32) -> Preset {
+    agreed();
     calls::diesel(fuel_density)
 }

@@ -1,6 +1,6 @@
 //! The gear sheet: a trace and a vehicle become a gear and a clutch for each second.
 
-use crate::{calls, Refusal};
+use crate::{agreed, calls, Refusal};
 
 /// The vehicle sheet; `ylhovesko_vehicle` of include/ylhovesko.h, which has the units and ranges. Only the first `gears` of `ndv` are read.
 #[repr(C)]
@@ -27,11 +27,13 @@ pub struct Vehicle {
 /// assert_eq!(gears(&stop, vehicle, &mut buffer, 3).unwrap_err().number, 8);
 /// ```
 pub fn gears(trace: &[u8], vehicle: Vehicle, buffer: &mut [u8], start: usize) -> Result<(), Refusal> {
+    agreed();
     calls::gears(trace, vehicle, buffer, start).told()
 }
 
 /// Judges the two traces of a cycle: refusals 1 to 4 of the normal one, then of the reduced one, then 15.
 pub fn judge_pair(normal: &[u8], reduced: &[u8]) -> Result<(), Refusal> {
+    agreed();
     calls::judge_pair(normal, reduced).told()
 }
 
@@ -56,6 +58,7 @@ pub fn judge_trace(trace: &[u8]) -> Result<(), Refusal> {
 /// assert!(ylhovesko::gear::choose(&stop, &[], false).is_empty());
 /// ```
 pub fn choose<'a>(normal: &'a [u8], reduced: &'a [u8], switch: bool) -> &'a [u8] {
+    agreed();
     match calls::chosen(normal, reduced, switch) {
         0 => &normal[..0],
         1 => normal,

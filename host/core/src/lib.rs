@@ -13,8 +13,28 @@ mod calls;
 #[path = "piped.rs"]
 mod calls;
 
+use std::sync::Once;
+
 /// Whether the core is linked into this program. Where it is not, each call goes through pipes, which takes far longer than the core.
 pub const LINKED: bool = cfg!(linked);
+
+/// The version of the header after which the types here are written.
+pub const VERSION: u32 = 2;
+
+/// The version of the core's archive.
+///
+/// ```
+/// assert_eq!(ylhovesko::version(), ylhovesko::VERSION);
+/// ```
+pub fn version() -> u32 {
+    calls::version()
+}
+
+/// Nothing is handed to an archive of another version: it would misread the structs in silence.
+fn agreed() {
+    static AGREED: Once = Once::new();
+    AGREED.call_once(|| assert_eq!(version(), VERSION, "the core's archive is of another version than this crate"));
+}
 
 /// Why an input was refused, and where: a row of the paper's table. 0 stands where the table has no place.
 #[derive(Clone, Copy, Debug, PartialEq, Eq)]

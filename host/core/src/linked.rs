@@ -6,6 +6,7 @@ use crate::Outcome;
 
 // A slice crosses as its pointer and then its length.
 extern "C" {
+    fn ylhovesko_version() -> u32;
     fn ylhovesko_gears(
         trace: *const u8,
         trace_length: usize,
@@ -22,6 +23,10 @@ extern "C" {
 }
 
 // Safety of all: a slice's pointer is not null and leads to its bytes, a `&mut` overlaps nothing, and the core keeps none of them.
+
+pub fn version() -> u32 {
+    unsafe { ylhovesko_version() }
+}
 
 pub fn gears(trace: &[u8], vehicle: Vehicle, buffer: &mut [u8], start: usize) -> Outcome {
     unsafe { ylhovesko_gears(trace.as_ptr(), trace.len(), vehicle, buffer.as_mut_ptr(), buffer.len(), start) }

@@ -60,6 +60,12 @@ fn outcome(answer: &[u8]) -> Outcome {
     Outcome { number: number(answer, 0), at: number(answer, 1), within: number(answer, 2), side: number(answer, 3) }
 }
 
+pub fn version() -> u32 {
+    let mut answer = [0; 4];
+    SERVER.with_borrow_mut(|server| server.call(b"v", &mut answer));
+    number(&answer, 0)
+}
+
 pub fn gears(trace: &[u8], vehicle: Vehicle, buffer: &mut [u8], start: usize) -> Outcome {
     let mut call = vec![b'g'];
     put_slice(&mut call, trace);

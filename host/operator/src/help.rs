@@ -18,7 +18,7 @@ usage: NAME COMMAND ..
   table TRACE TABLE         such a table from a trace
   demo                      all of these on the files of a folder
   help [COMMAND]            this, or more of a command with an example; so do -h and --help
-  --version                 the version
+  --version                 the versions of the command and of the core
 
 A sheet is a text of lines 'key = value'; what follows # is a comment. Its first key is 'sheet = vehicle' or 'sheet = bags'. Values are whole
 numbers, but for readings, in the units that the help of 'gears' and of 'result' gives.

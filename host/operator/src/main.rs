@@ -129,7 +129,8 @@ fn answer(given: &[OsString]) -> Result<Told, Failure> {
         return Err(Failure::usage("no command given".to_string()));
     };
     if first == "--version" {
-        return Ok(Told::accepted(format!("ylhovesko {}\n", env!("CARGO_PKG_VERSION"))));
+        let core = ylhovesko::version();
+        return Ok(Told::accepted(format!("ylhovesko {}, core version {core}\n", env!("CARGO_PKG_VERSION"))));
     }
     let Some(command) = given.iter().take(2).find(|word| !is_help(word)) else {
         return helped(help::TOP);
