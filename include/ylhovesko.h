@@ -63,6 +63,12 @@ typedef struct {
     uint32_t side;
 } ylhovesko_outcome;
 
+/* A figure: the exact one lies between the two ends, or at one of them. */
+typedef struct {
+    int64_t lower;
+    int64_t upper;
+} ylhovesko_ends;
+
 /* The vehicle sheet. Only the first `gears` of ndv are read. */
 typedef struct {
     uint32_t power;  /* rated power in 0.1 kW, 1 to 3,000; 19 x power at most 150 x (mass + 75) */
@@ -89,6 +95,19 @@ typedef struct {
  */
 ylhovesko_outcome ylhovesko_gears(const uint8_t *trace, size_t trace_length, ylhovesko_vehicle vehicle, uint8_t *buffer, size_t buffer_length,
                                   size_t start);
+
+/*
+ * The shift speeds of a vehicle, in 0.001 km/h, with both ends rounded outward. upshift[i] is the one from gear i + 1 to the next, and past count all is
+ * 0. The downshift from gear i to the one before, for i from 3 on, is upshift[i - 3]. Where outcome is a refusal all the rest is 0.
+ */
+typedef struct {
+    ylhovesko_outcome outcome;
+    uint32_t count; /* of upshifts: one less than the gears */
+    ylhovesko_ends upshift[7];
+} ylhovesko_speeds;
+
+/* Refusals 5 to 7. */
+ylhovesko_speeds ylhovesko_shift_speeds(ylhovesko_vehicle vehicle);
 
 /*
  * The normal and the reduced trace of a cycle, judged as a pair. Refusals 1 to 4 of the normal one, then of the reduced one, then 15.
@@ -185,12 +204,6 @@ typedef struct {
     } limits; /* field 12: micrograms/km, 0 to 10^12 each */
     ylhovesko_part part[3];
 } ylhovesko_bag_sheet;
-
-/* A figure: the exact one lies between the two ends, or at one of them. */
-typedef struct {
-    int64_t lower;
-    int64_t upper;
-} ylhovesko_ends;
 
 /* A figure of each gas. */
 typedef struct {

@@ -24,6 +24,22 @@ static int ends(ylhovesko_ends e, int64_t lower, int64_t upper)
     return e.lower == lower && e.upper == upper;
 }
 
+static void shift_speeds(ylhovesko_vehicle vehicle)
+{
+    ylhovesko_speeds speeds = ylhovesko_shift_speeds(vehicle);
+    const ylhovesko_ends none[7] = {{0, 0}};
+
+    expect("the speeds' outcome", is(speeds.outcome, 0, 0) && speeds.count == 3);
+    expect("upshift 1 to 2, which is also downshift 3 to 2", ends(speeds.upshift[0], 18498, 18499));
+    expect("upshift 2 to 3", ends(speeds.upshift[1], 36497, 36498));
+    expect("upshift 3 to 4", ends(speeds.upshift[2], 48663, 48664));
+    expect("no further upshift", memcmp(speeds.upshift + 3, none, 4 * sizeof none[0]) == 0);
+    vehicle.gears = 9;
+    speeds = ylhovesko_shift_speeds(vehicle);
+    expect("gears", is(speeds.outcome, 5, 5));
+    expect("no speed beside a refusal", speeds.count == 0 && memcmp(speeds.upshift, none, sizeof none) == 0);
+}
+
 /* two parts with 1 percent of CO2 in the bag and nothing else, and nothing in the air */
 static ylhovesko_bag_sheet bag_sheet(void)
 {
@@ -112,6 +128,7 @@ int main(void)
     expect("switch on", ylhovesko_chosen(normal, sizeof normal, normal, sizeof normal, true) == YLHOVESKO_REDUCED);
     expect("none chosen", ylhovesko_chosen(normal, sizeof normal, reduced, sizeof reduced, true) == YLHOVESKO_NEITHER);
 
+    shift_speeds(vehicle);
     presets();
     emission();
 

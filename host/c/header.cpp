@@ -12,7 +12,9 @@ int main()
     sheet.triple = petrol.triple;
     sheet.fuel = petrol.fuel;
     const ylhovesko_outcome gears = ylhovesko_gears(stop, sizeof stop, vehicle, row, sizeof row, 0);
+    const ylhovesko_speeds speeds = ylhovesko_shift_speeds(vehicle);
     const uint32_t chosen = ylhovesko_chosen(stop, sizeof stop, stop, sizeof stop, true);
     const ylhovesko_test_result result = ylhovesko_result(sheet);
-    return ylhovesko_version() == YLHOVESKO_VERSION && gears.number == 0 && chosen == YLHOVESKO_REDUCED && result.verdict.hc != YLHOVESKO_PASS ? 0 : 1;
+    const bool told = gears.number == 0 && speeds.count == 3 && chosen == YLHOVESKO_REDUCED && result.verdict.hc != YLHOVESKO_PASS;
+    return told && ylhovesko_version() == YLHOVESKO_VERSION ? 0 : 1;
 }

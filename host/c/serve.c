@@ -4,6 +4,7 @@
  *
  *   'v'                                 ->  version (32 bits)
  *   'g' trace, vehicle, buffer, start   ->  outcome, the buffer's bytes
+ *   's' vehicle                         ->  shift speeds
  *   'p' normal, reduced                 ->  outcome
  *   'c' normal, reduced, switch (1 byte) -> which one (32 bits)
  *   'r' bag sheet                       ->  result
@@ -58,6 +59,17 @@ static int gears(void)
     return give(&o, sizeof o) && give(two.bytes, (size_t)two.length);
 }
 
+static int shift_speeds(void)
+{
+    ylhovesko_vehicle vehicle;
+    ylhovesko_speeds s;
+
+    if (!take(&vehicle, sizeof vehicle))
+        return 0;
+    s = ylhovesko_shift_speeds(vehicle);
+    return give(&s, sizeof s);
+}
+
 static int judge_pair(void)
 {
     ylhovesko_outcome o;
@@ -109,6 +121,8 @@ static int answer(int call)
         return version();
     case 'g':
         return gears();
+    case 's':
+        return shift_speeds();
     case 'p':
         return judge_pair();
     case 'c':

@@ -18,11 +18,17 @@ static uint8_t row[2 * 2000];
 static ylhovesko_bag_sheet sheet;
 static ylhovesko_test_result result;
 
+static const ylhovesko_vehicle vehicle = {300, 200, 8000, 1200, 4, {20000, 12000, 9000, 7000, 0, 0, 0, 0}};
+
 static void gears(void)
 {
-    const ylhovesko_vehicle vehicle = {300, 200, 8000, 1200, 4, {20000, 12000, 9000, 7000, 0, 0, 0, 0}};
-
     if (ylhovesko_gears(trace, sizeof trace, vehicle, row, sizeof row, 0).number != 0)
+        wrong = 1;
+}
+
+static void speeds(void)
+{
+    if (ylhovesko_shift_speeds(vehicle).count != 3)
         wrong = 1;
 }
 
@@ -85,7 +91,7 @@ int main(void)
     const ylhovesko_preset petrol = ylhovesko_petrol(750);
     const ylhovesko_part part = {.pump = 1000, .revolutions = 50000, .barometer = 101300, .distance = 1000, .density = petrol.density};
     const struct measured all[] = {
-        {"gears", gears}, {"a pair of traces", pair}, {"a result", a_result}, {"a refused result", a_refused_result}};
+        {"gears", gears}, {"shift speeds", speeds}, {"a pair of traces", pair}, {"a result", a_result}, {"a refused result", a_refused_result}};
     size_t k;
 
     for (k = 0; k < 2000; k++) {

@@ -2,6 +2,7 @@
 //!
 //! The types are those of include/ylhovesko.h, which has the units and ranges.
 
+pub use crate::Ends;
 use crate::{agreed, calls, Outcome, Refusal};
 
 /// One thing for each gas.
@@ -96,14 +97,6 @@ pub struct Sheet {
     pub fuel: Fuel,
     pub limits: Gases<u64>,
     pub parts: [Part; 3],
-}
-
-/// A figure: the exact one lies between the two ends, or at one of them.
-#[repr(C)]
-#[derive(Clone, Copy, Debug, Default, PartialEq, Eq)]
-pub struct Ends {
-    pub lower: i64,
-    pub upper: i64,
 }
 
 /// The figures of a part: ml at 20 degrees C and 101.325 kPa, micrograms and micrograms/km.

@@ -1,6 +1,6 @@
 //! The gear sheet: a trace and a vehicle become a gear and a clutch for each second.
 
-use crate::{agreed, calls, Refusal};
+use crate::{agreed, calls, Ends, Outcome, Refusal};
 
 /// The vehicle sheet; `ylhovesko_vehicle` of include/ylhovesko.h, which has the units and ranges. Only the first `gears` of `ndv` are read.
 #[repr(C)]
@@ -29,6 +29,50 @@ pub struct Vehicle {
 pub fn gears(trace: &[u8], vehicle: Vehicle, buffer: &mut [u8], start: usize) -> Result<(), Refusal> {
     agreed();
     calls::gears(trace, vehicle, buffer, start).told()
+}
+
+/// What crosses the boundary in place of a `Result`; `ylhovesko_speeds` of include/ylhovesko.h.
+#[repr(C)]
+pub(crate) struct SpeedsOutcome {
+    pub outcome: Outcome,
+    pub count: u32,
+    pub upshift: [Ends; 7],
+}
+
+/// The shift speeds of a vehicle, in 0.001 km/h.
+#[derive(Clone, Debug, PartialEq, Eq)]
+pub struct ShiftSpeeds(Vec<Ends>);
+
+impl ShiftSpeeds {
+    /// From each gear but the last to the next, beginning with gear 1.
+    pub fn upshifts(&self) -> &[Ends] {
+        &self.0
+    }
+
+    /// From each gear to the one before, beginning with gear 3. The first is the upshift 1 to 2, and so on: the upshift of two gears below.
+    pub fn downshifts(&self) -> &[Ends] {
+        &self.0[..self.0.len() - 1]
+    }
+}
+
+/// The shift speeds of a vehicle; or the first of the refusals 5 to 7.
+///
+/// ```
+/// use ylhovesko::gear::{shift_speeds, Vehicle};
+/// use ylhovesko::Ends;
+/// let vehicle = Vehicle { power: 300, mass: 200, rated: 8000, idle: 1200, gears: 3, ndv: [20_000, 12_000, 9_000, 0, 0, 0, 0, 0] };
+/// let speeds = shift_speeds(vehicle).unwrap();
+/// assert_eq!(speeds.upshifts(), [Ends { lower: 18_498, upper: 18_499 }, Ends { lower: 36_497, upper: 36_498 }]);
+/// assert_eq!(speeds.downshifts(), &speeds.upshifts()[..1]);
+/// assert_eq!(shift_speeds(Vehicle { gears: 9, ..vehicle }).unwrap_err().number, 5);
+/// ```
+pub fn shift_speeds(vehicle: Vehicle) -> Result<ShiftSpeeds, Refusal> {
+    agreed();
+    let SpeedsOutcome { outcome, count, upshift } = calls::shift_speeds(vehicle);
+    let told = outcome.told();
+    let (given, rest) = upshift.split_at(count as usize);
+    assert!(rest.iter().all(|ends| *ends == Ends::default()) && (count == 0) == told.is_err(), "what is not given is 0");
+    told.map(|()| ShiftSpeeds(given.to_vec()))
 }
 
 /// Judges the two traces of a cycle: refusals 1 to 4 of the normal one, then of the reduced one, then 15.

@@ -36,6 +36,14 @@ fn agreed() {
     AGREED.call_once(|| assert_eq!(version(), VERSION, "the core's archive is of another version than this crate"));
 }
 
+/// A figure: the exact one lies between the two ends, or at one of them.
+#[repr(C)]
+#[derive(Clone, Copy, Debug, Default, PartialEq, Eq)]
+pub struct Ends {
+    pub lower: i64,
+    pub upper: i64,
+}
+
 /// Why an input was refused, and where: a row of the paper's table. 0 stands where the table has no place.
 #[derive(Clone, Copy, Debug, PartialEq, Eq)]
 pub struct Refusal {

@@ -1,7 +1,7 @@
 //! The core's calls where its archive is linked.
 
 use crate::bags::{Preset, Sheet, TestOutcome};
-use crate::gear::Vehicle;
+use crate::gear::{SpeedsOutcome, Vehicle};
 use crate::Outcome;
 
 // A slice crosses as its pointer and then its length.
@@ -15,6 +15,7 @@ extern "C" {
         buffer_length: usize,
         start: usize,
     ) -> Outcome;
+    fn ylhovesko_shift_speeds(vehicle: Vehicle) -> SpeedsOutcome;
     fn ylhovesko_judge_pair(normal: *const u8, normal_length: usize, reduced: *const u8, reduced_length: usize) -> Outcome;
     fn ylhovesko_chosen(normal: *const u8, normal_length: usize, reduced: *const u8, reduced_length: usize, switch: bool) -> u32;
     fn ylhovesko_result(sheet: Sheet) -> TestOutcome;
@@ -30,6 +31,10 @@ pub fn version() -> u32 {
 
 pub fn gears(trace: &[u8], vehicle: Vehicle, buffer: &mut [u8], start: usize) -> Outcome {
     unsafe { ylhovesko_gears(trace.as_ptr(), trace.len(), vehicle, buffer.as_mut_ptr(), buffer.len(), start) }
+}
+
+pub fn shift_speeds(vehicle: Vehicle) -> SpeedsOutcome {
+    unsafe { ylhovesko_shift_speeds(vehicle) }
 }
 
 pub fn judge_pair(normal: &[u8], reduced: &[u8]) -> Outcome {

@@ -4,9 +4,9 @@ use std::cell::RefCell;
 use std::io::{Read, Write};
 use std::process::{Child, ChildStdin, ChildStdout, Command, Stdio};
 
-use crate::bags::{Ends, Figures, Fuel, Gases, Part, PartResult, Preset, Sheet, TestOutcome, Triple};
-use crate::gear::Vehicle;
-use crate::Outcome;
+use crate::bags::{Figures, Fuel, Gases, Part, PartResult, Preset, Sheet, TestOutcome, Triple};
+use crate::gear::{SpeedsOutcome, Vehicle};
+use crate::{Ends, Outcome};
 
 struct Server {
     child: Child,
@@ -66,19 +66,32 @@ pub fn version() -> u32 {
     number(&answer, 0)
 }
 
+fn put_vehicle(call: &mut Vec<u8>, vehicle: Vehicle) {
+    let Vehicle { power, mass, rated, idle, gears, ndv } = vehicle;
+    put_words(call, &[power, mass, rated, idle, gears]);
+    put_words(call, &ndv);
+}
+
 pub fn gears(trace: &[u8], vehicle: Vehicle, buffer: &mut [u8], start: usize) -> Outcome {
     let mut call = vec![b'g'];
     put_slice(&mut call, trace);
-    let Vehicle { power, mass, rated, idle, gears, ndv } = vehicle;
-    for word in [power, mass, rated, idle, gears].into_iter().chain(ndv) {
-        call.extend(word.to_le_bytes());
-    }
+    put_vehicle(&mut call, vehicle);
     put_slice(&mut call, buffer);
     call.extend((start as u64).to_le_bytes());
     let mut answer = vec![0; 16 + buffer.len()];
     SERVER.with_borrow_mut(|server| server.call(&call, &mut answer));
     buffer.copy_from_slice(&answer[16..]);
     outcome(&answer)
+}
+
+pub fn shift_speeds(vehicle: Vehicle) -> SpeedsOutcome {
+    let mut call = vec![b's'];
+    put_vehicle(&mut call, vehicle);
+    let mut answer = [0; size_of::<SpeedsOutcome>()];
+    SERVER.with_borrow_mut(|server| server.call(&call, &mut answer));
+    // the count has four bytes of padding behind it
+    let mut ends = EndsIn(&answer[24..]);
+    SpeedsOutcome { outcome: outcome(&answer), count: number(&answer, 4), upshift: std::array::from_fn(|_| ends.ends()) }
 }
 
 pub fn judge_pair(normal: &[u8], reduced: &[u8]) -> Outcome {

@@ -6,14 +6,11 @@ use crate::pair::Pair;
 use crate::refusals::Found;
 use crate::trace::Trace;
 use crate::whole_test::{self, Test};
-use crate::{bags, gears, refusals, result_sheet, trace, vehicle, Failure, Told};
+use crate::{bags, gears, refusals, result_sheet, speeds, trace, vehicle, Failure, Told};
 use std::ffi::OsString;
 use std::path::{Path, PathBuf};
-use ylhovesko::gear::{gears as core_gears, judge_trace};
+use ylhovesko::gear::{judge_trace, shift_speeds};
 use ylhovesko::Refusal;
-
-/// One second of stop: any vehicle that is taken has a row for it.
-const STOP: [u8; 12] = [b'W', b'T', b'R', 0, 1, 0, 1, 0, 0, 0, 0, 0];
 
 pub fn result(given: &[OsString]) -> Result<Told, Failure> {
     let arguments = Arguments::of(given, &["--csv"], &[])?;
@@ -68,7 +65,7 @@ fn judge(path: &Path) -> Result<Told, Failure> {
             judged_line(&name, judge_trace(&bytes), |refusal| trace::found(&bytes, refusal)).noting(&notes)
         }
         Known::Vehicle(sheet) => {
-            let judged = core_gears(&STOP, sheet.value, &mut [0; 2], 0);
+            let judged = shift_speeds(sheet.value).map(|_| ());
             judged_line(&name, judged, |refusal| vehicle::found(&sheet.text, refusal)).noting(&sheet.notes)
         }
         Known::Bags(sheet) => {
@@ -97,5 +94,6 @@ pub fn demo(given: &[OsString]) -> Result<Told, Failure> {
     shown.push(gears::of_pair(&Pair::read(&traces[0], &traces[1])?, true, &vehicle, gears::Outputs::default())?);
     let normal: Vec<PathBuf> = traces.iter().step_by(2).cloned().collect();
     shown.push(Test::read(&vehicle.path, &normal, &bags)?.told(whole_test::Outputs::default())?);
+    shown.push(speeds::of_vehicle(&vehicle, None)?);
     Ok(Told::apart(shown))
 }

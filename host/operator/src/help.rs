@@ -9,6 +9,7 @@ The calculation core for motorcycle emission benches, for the operator.
 usage: NAME COMMAND ..
 
   gears TRACE VEHICLE       the gear and the clutch of each second of a trace, or of one of a pair
+  speeds VEHICLE            the upshift and downshift speeds of a vehicle
   result BAGSHEET           the result of a Type I test from its bag sheet
   test VEHICLE TRACE.. BAGSHEET
                             a whole test: one row of gears over all its parts, then its result
@@ -49,6 +50,18 @@ A vehicle sheet:
 For example:
   NAME gears demo/part1_normal.wtr demo/annex13.vehicle --csv row.csv --svg row.svg
   NAME gears --pair demo/part1_normal.wtr demo/part1_reduced.wtr demo/annex13.vehicle --reduced
+";
+
+pub const SPEEDS: &str = "\
+usage: NAME speeds VEHICLE [--csv FILE]
+
+Prints the upshift and the downshift speeds of a vehicle sheet in km/h. Each has two ends, rounded outward to 0.001 km/h, and the exact one lies
+between them.
+
+  --csv FILE    writes every shift with its gears and its speed
+
+For example:
+  NAME speeds demo/annex13.vehicle --csv speeds.csv
 ";
 
 pub const RESULT: &str = "\
@@ -147,7 +160,7 @@ pub const DEMO: &str = "\
 usage: NAME demo [--from FOLDER]
 
 Prints, of the machine annex13.vehicle: its gears on the six traces part1_normal.wtr to part3_reduced.wtr, the result of low_nox.bags, its gears on
-the reduced trace of the pair of part 1, and the whole test of the three normal traces and low_nox.bags.
+the reduced trace of the pair of part 1, the whole test of the three normal traces and low_nox.bags, and its shift speeds.
 
   --from FOLDER    where these files are; 'demo' where it is not given
 

@@ -18,6 +18,7 @@ mod refusals;
 mod result_sheet;
 mod row;
 mod sheet;
+mod speeds;
 mod trace;
 mod vehicle;
 mod whole_test;
@@ -99,8 +100,9 @@ impl Told {
 type Command = fn(&[OsString]) -> Result<Told, Failure>;
 
 /// Each command with its help.
-const COMMANDS: [(&str, &str, Command); 8] = [
+const COMMANDS: [(&str, &str, Command); 9] = [
     ("gears", help::GEARS, gears::gears),
+    ("speeds", help::SPEEDS, speeds::speeds),
     ("result", help::RESULT, commands::result),
     ("test", help::TEST, whole_test::test),
     ("check", help::CHECK, commands::check),

@@ -25,7 +25,7 @@ fn both(ends: Ends) -> String {
 }
 
 /// The heading of a table: what it has, with its unit, over the lines of [`line`].
-fn heading(title: &str) -> String {
+pub fn heading(title: &str) -> String {
     format!("{title:<30}{:>20} {:>20}", "lower end", "upper end")
 }
 

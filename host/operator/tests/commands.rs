@@ -97,6 +97,9 @@ fn wrong_use() {
         &["gears", "--pair", "a", "b"],
         &["gears", "--pair", "a", "b", "c", "d"],
         &["gears", "--pair", "a", "b", "c", "--csv", "b"],
+        &["speeds"],
+        &["speeds", "a", "b"],
+        &["speeds", "a", "--csv", "a"],
         &["result"],
         &["result", "a", "b"],
         &["result", "a", "--csv", "a"],
@@ -125,7 +128,7 @@ fn wrong_use() {
     assert!(told.errors.starts_with("/nowhere/at/all/annex13.vehicle: cannot be read: "), "{}", told.errors);
 }
 
-const COMMANDS: [&str; 8] = ["gears", "result", "test", "check", "preset", "house-file", "table", "demo"];
+const COMMANDS: [&str; 9] = ["gears", "speeds", "result", "test", "check", "preset", "house-file", "table", "demo"];
 
 #[test]
 fn every_command_has_help() {
@@ -171,7 +174,7 @@ fn every_command_has_an_example_that_runs() {
             assert!(!done.stdout.is_empty());
         }
     }
-    for made in ["row.csv", "row.svg", "result.csv", "test.svg", "part1_normal.wtr", "part1_normal.csv"] {
+    for made in ["row.csv", "row.svg", "speeds.csv", "result.csv", "test.svg", "part1_normal.wtr", "part1_normal.csv"] {
         assert!(folder.join(made).exists(), "{made}");
     }
 }

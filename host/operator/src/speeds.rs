@@ -1,0 +1,69 @@
+//! The shift speeds of a vehicle. Each has two ends, rounded outward to 0.001 km/h, and the exact one lies between them.
+
+use crate::arguments::Arguments;
+use crate::files::{self, Given};
+use crate::result_sheet::heading;
+use crate::{refusals, vehicle, Failure, Told};
+use std::ffi::OsString;
+use std::path::Path;
+use ylhovesko::gear::{shift_speeds, ShiftSpeeds, Vehicle};
+use ylhovesko::Ends;
+
+pub fn speeds(given: &[OsString]) -> Result<Told, Failure> {
+    let arguments = Arguments::of(given, &["--csv"], &[])?;
+    let [vehicle] = arguments.exactly("a vehicle sheet")?;
+    let [csv] = arguments.outputs(["--csv"])?;
+    of_vehicle(&files::vehicle(&vehicle)?, csv)
+}
+
+pub fn of_vehicle(vehicle: &Given<Vehicle>, csv: Option<&Path>) -> Result<Told, Failure> {
+    let speeds = match shift_speeds(vehicle.value) {
+        Ok(speeds) => shifts(&speeds),
+        Err(refusal) => {
+            let line = refusals::line(refusal, &vehicle::found(&vehicle.text, refusal));
+            return Ok(Told::refused(line + "\n").noting(&vehicle.notes));
+        }
+    };
+    if let Some(path) = csv {
+        files::write(path, &csv_of(&speeds))?;
+    }
+    let title = format!("Shift speeds of {}", files::name(&vehicle.path));
+    Ok(Told::accepted(format!("{title}\n\n{}\n{}", table("Upshift", &speeds), table("Downshift", &speeds))).noting(&vehicle.notes))
+}
+
+/// A shift from one gear to another.
+struct Shift {
+    word: &'static str,
+    from: usize,
+    to: usize,
+    ends: Ends,
+}
+
+fn shifts(speeds: &ShiftSpeeds) -> Vec<Shift> {
+    let up = (1..).zip(speeds.upshifts()).map(|(gear, ends)| Shift { word: "Upshift", from: gear, to: gear + 1, ends: *ends });
+    let down = (3..).zip(speeds.downshifts()).map(|(gear, ends)| Shift { word: "Downshift", from: gear, to: gear - 1, ends: *ends });
+    up.chain(down).collect()
+}
+
+/// A speed of 0.001 km/h in km/h.
+fn kilometres_an_hour(thousandths: i64) -> String {
+    let sign = if thousandths < 0 { "-" } else { "" };
+    let size = thousandths.unsigned_abs();
+    format!("{sign}{}.{:03}", size / 1000, size % 1000)
+}
+
+fn table(word: &str, shifts: &[Shift]) -> String {
+    let mut lines = heading(&format!("{word}, km/h")) + "\n";
+    for Shift { from, to, ends, .. } in shifts.iter().filter(|shift| shift.word == word) {
+        let (lower, upper) = (kilometres_an_hour(ends.lower), kilometres_an_hour(ends.upper));
+        lines += &format!("{:<30}{lower:>20} {upper:>20}\n", format!("    {from} to {to}"));
+    }
+    lines
+}
+
+fn csv_of(shifts: &[Shift]) -> String {
+    let lines = shifts.iter().map(|Shift { word, from, to, ends }| {
+        format!("{},{from},{to},{},{}\n", word.to_lowercase(), kilometres_an_hour(ends.lower), kilometres_an_hour(ends.upper))
+    });
+    format!("shift,from gear,to gear,lower end in km/h,upper end in km/h\n{}", lines.collect::<String>())
+}
