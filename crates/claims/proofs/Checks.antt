@@ -21,19 +21,19 @@ use Rattle.gear.specs.Own.{ownAt}
 use Rattle.gear.specs.Sheet as gears
 use Rattle.gear.specs.Sheet.{gearAnswer}
 use Rattle.bag.specs.declared.BagSheet.{BagSheet}
-use Rattle.bag.specs.Sheet.{sheetChecks, messageChecks, readingChecks, ofThird, judgeSheet}
+use Rattle.bag.specs.Sheet.{sheetChecks, ofThird, judgeSheet}
 use Rattle.bag.specs.declared.Part.{Part}
 use Rattle.part.specs.declared.Sides.{Sides}
 use Rattle.part.specs.declared.PartRead.{PartRead}
 use Rattle.part.specs.declared.PartRead.the-variants as partRead
-use Rattle.part.specs.Read.{readPart, judgedPart}
+use Rattle.part.specs.Read.{readPart, judgedPart, readingChecks}
 use Rattle.part.proofs.Read.{part-judged}
 use Rattle.emission.specs.declared.Read.{Read}
 use Rattle.emission.specs.declared.Read.the-variants as read
 use Rattle.emission.specs.declared.Answer.{Answer}
 use Rattle.emission.specs.declared.Answer.the-variants.{Result}
 use Rattle.emission.specs.declared.Answer.the-variants as answer
-use Rattle.emission.specs.Test.{nothing, readThird, onPart, readIn, onRead, lateChecks, judgeLate, handUp, readAnswer, testAnswer}
+use Rattle.emission.specs.Test.{nothing, readThird, onPart, readIn, messageChecks, onRead, lateChecks, judgeLate, handUp, readAnswer, testAnswer}
 
 -- ---- stages and searches as lists of checks
 abbrev pub check : Bool → Refusal → Check

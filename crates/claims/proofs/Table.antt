@@ -18,12 +18,13 @@ use Rattle.trace.specs.Judging.{judgePair}
 use Rattle.gear.specs.Sheet.{gearAnswer}
 use Rattle.stage.specs.Part.{humidityGood}
 use Rattle.bag.specs.declared.BagSheet.{BagSheet}
-use Rattle.bag.specs.Sheet.{testChecks, valueChecks, sheetChecks, messageChecks, readingChecks}
+use Rattle.bag.specs.Sheet.{testChecks, valueChecks, sheetChecks}
+use Rattle.part.specs.Read.{readingChecks}
 use Rattle.emission.specs.declared.Read.{Read}
 use Rattle.emission.specs.declared.Read.the-variants as read
 use Rattle.emission.specs.declared.Answer.{Answer}
 use Rattle.emission.specs.declared.Answer.the-variants as answer
-use Rattle.emission.specs.Test.{readIn, lateChecks, testAnswer}
+use Rattle.emission.specs.Test.{readIn, messageChecks, lateChecks, testAnswer}
 use Rattle.outcome.specs.declared.Outcome.{Outcome}
 use Rattle.outcome.specs.Outcome.{outcomeOf}
 use Rattle.crossing.specs.Sheet.{withNothing, resultOut}

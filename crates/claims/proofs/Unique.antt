@@ -88,6 +88,27 @@ trace-judge-unique κs a x y ws vs pre h h′ = (h ∙ sym h′, refl)
 pub trace-judge-pair-unique : Coincide 2 trace.judge_pair.Kinds.ps trace.judge_pair.Kinds.r trace.judge_pair.Reads.Pre trace.judge_pair.Reads.Post
 trace-judge-pair-unique κs a x y ws vs pre h h′ = (h ∙ sym h′, refl)
 
+pub trace-flags-at-unique : Coincide 1 trace.flags_at.Kinds.ps trace.flags_at.Kinds.r trace.flags_at.Reads.Pre trace.flags_at.Reads.Post
+trace-flags-at-unique κs a x y ws vs pre h h′ = (h ∙ sym h′, refl)
+
+pub trace-stop-at-unique : Coincide 1 trace.stop_at.Kinds.ps trace.stop_at.Kinds.r trace.stop_at.Reads.Pre trace.stop_at.Reads.Post
+trace-stop-at-unique κs a x y ws vs pre h h′ = (h ∙ sym h′, refl)
+
+pub trace-is-stop-unique : Coincide 0 trace.is_stop.Kinds.ps trace.is_stop.Kinds.r trace.is_stop.Reads.Pre trace.is_stop.Reads.Post
+trace-is-stop-unique κs a x y ws vs pre h h′ = (h ∙ sym h′, refl)
+
+pub trace-is-acceleration-unique : Coincide 0 trace.is_acceleration.Kinds.ps trace.is_acceleration.Kinds.r trace.is_acceleration.Reads.Pre trace.is_acceleration.Reads.Post
+trace-is-acceleration-unique κs a x y ws vs pre h h′ = (h ∙ sym h′, refl)
+
+pub trace-is-deceleration-unique : Coincide 0 trace.is_deceleration.Kinds.ps trace.is_deceleration.Kinds.r trace.is_deceleration.Reads.Pre trace.is_deceleration.Reads.Post
+trace-is-deceleration-unique κs a x y ws vs pre h h′ = (h ∙ sym h′, refl)
+
+pub trace-no-shift-unique : Coincide 0 trace.no_shift.Kinds.ps trace.no_shift.Kinds.r trace.no_shift.Reads.Pre trace.no_shift.Reads.Post
+trace-no-shift-unique κs a x y ws vs pre h h′ = (h ∙ sym h′, refl)
+
+pub trace-no-first-unique : Coincide 0 trace.no_first.Kinds.ps trace.no_first.Kinds.r trace.no_first.Reads.Pre trace.no_first.Reads.Post
+trace-no-first-unique κs a x y ws vs pre h h′ = (h ∙ sym h′, refl)
+
 -- ---- row
 pub row-cap-runs-unique : Coincide 2 row.cap_runs.Kinds.ps row.cap_runs.Kinds.r row.cap_runs.Reads.Pre row.cap_runs.Reads.Post
 row-cap-runs-unique κs a x y ws vs pre h h′ = (refl, ap (λ (l : List ℕ). (tt, (l, (tt, tt)))) (h ∙ sym h′))

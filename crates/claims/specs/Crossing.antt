@@ -1,4 +1,4 @@
--- What crosses the boundary, number by number, as include/ylhovesko.h tells a bench: kinds of a message, verdicts, the four numbers of an outcome, the chosen one
+-- What crosses the boundary, number by number, as include/ylhovesko.h tells a bench: kinds of a message, gases, verdicts, the four numbers of an outcome, the chosen one
 -- of a pair; and 001's figures of the fuels (paragraph 8), as decimals beside the sheet's whole numbers.
 use mathlib.Core.Bool.{true, false}
 use mathlib.Core.List.{List, [], _∷_}
@@ -7,6 +7,7 @@ use lib.Ieee.{ofBits, binary32}
 use Rattle.refusal.specs.declared.Refusal.the-variants.{Header, Second, Vehicle, Ratio, Value, Reading, Humidity}
 use Rattle.refusal.specs.declared.Judged.the-variants.{Accepted, Refused}
 use Rattle.reading.specs.declared.Message.the-variants.{Ppm, Percent, OverRange, NotFitted}
+use Rattle.reading.specs.Gas.{HC, CO, NOx, CO2, gasNumber}
 use Rattle.stage.specs.declared.Verdict.the-variants.{Pass, Fail, Undecided}
 use Rattle.preset.specs.Preset.{petrolOf, dieselOf}
 use Rattle.outcome.specs.Outcome.{outcomeOf, chosenOf}
@@ -29,6 +30,10 @@ crossing =
     ∷ (messageOf (record { kind = 2; bits = one }) gives OverRange)
     ∷ (messageOf (record { kind = 3; bits = one }) gives NotFitted)
     ∷ (messageOf (record { kind = 4; bits = one }) gives NotFitted)
+    ∷ (gasNumber HC gives 1)
+    ∷ (gasNumber CO gives 2)
+    ∷ (gasNumber NOx gives 3)
+    ∷ (gasNumber CO2 gives 4)
     ∷ (verdictNumber Pass gives 1)
     ∷ (verdictNumber Fail gives 2)
     ∷ (verdictNumber Undecided gives 3)
