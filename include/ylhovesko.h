@@ -97,8 +97,9 @@ ylhovesko_outcome ylhovesko_gears(const uint8_t *trace, size_t trace_length, ylh
                                   size_t start);
 
 /*
- * The shift speeds of a vehicle, in 0.001 km/h, with both ends rounded outward: first the engine speed at which gears are shifted to 1/10,000 per minute,
- * then that over ndv. upshift[i] is the one from gear i + 1 to the next, and past count all is 0. The downshift from gear i to the one before, for i from 3 on, is upshift[i - 3]. Where outcome is a refusal all the rest is 0.
+ * The shift speeds of a vehicle, in 0.001 km/h, with both ends rounded outward: first the engine speed at which gears are shifted, to 1/10,000 per
+ * minute, then that over ndv. upshift[i] is the one from gear i + 1 to the next, and past count all is 0. The downshift from gear i to the one
+ * before, for i from 3 on, is upshift[i - 3]. Where outcome is a refusal all the rest is 0.
  */
 typedef struct {
     ylhovesko_outcome outcome;
