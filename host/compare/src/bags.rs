@@ -2,8 +2,9 @@
 
 use std::fmt;
 
-use plain::bags::{Figure, Message, PartResult, TestResult};
+use plain::bags::{Message, PartResult, TestResult};
 use plain::exact::{exact, ExactPart, ExactTest};
+use plain::figure::Figure;
 use plain::fraction::Fraction;
 use ylhovesko::bags::{Ends, Fuel, Gases, Part, Reading, Sheet, Triple, Verdict};
 

@@ -1,5 +1,6 @@
 //! The emission sheet (01, Bag sheet and figures), refusals 10 to 14. Gases go HC, CO, NOx, CO2.
 
+use crate::figure::{combined, Figure};
 use crate::{at, check, nowhere, Refusal};
 
 /// "The analyser's message, which is ppm with a 32-bit float, percent with a 32-bit float, over range, or not fitted."
@@ -40,43 +41,6 @@ pub struct Sheet {
     pub fuel_density: u32,
     pub limits: [u64; 4],
     pub parts: [Part; 3],
-}
-
-/// A figure: "a lower end rounded down and an upper end rounded up".
-#[derive(Clone, Copy, Debug)]
-pub struct Figure {
-    pub lower: i128,
-    pub upper: i128,
-}
-
-impl Figure {
-    /// A stage that divides: rounded down, and up.
-    fn over(lower: i128, upper: i128, divisor: i128) -> Figure {
-        Figure { lower: lower.div_euclid(divisor), upper: -(-upper).div_euclid(divisor) }
-    }
-
-    /// A stage of whole numbers alone.
-    fn of(numerator: i128, divisor: i128) -> Figure {
-        Figure::over(numerator, numerator, divisor)
-    }
-
-    /// "A product of ends takes the smallest and largest outcome"; then divided.
-    fn times(self, other: Figure, divisor: i128) -> Figure {
-        let outcomes = [self.lower * other.lower, self.lower * other.upper, self.upper * other.lower, self.upper * other.upper];
-        Figure::over(*outcomes.iter().min().unwrap(), *outcomes.iter().max().unwrap(), divisor)
-    }
-
-    /// Multiplied by a number that is not negative, and divided.
-    fn scaled(self, factor: u32, divisor: i128) -> Figure {
-        combined(&[(factor, self)], divisor)
-    }
-}
-
-/// The sum of figures, each with its own factor, divided.
-fn combined(terms: &[(u32, Figure)], divisor: i128) -> Figure {
-    let lower = terms.iter().map(|(factor, figure)| i128::from(*factor) * figure.lower).sum();
-    let upper = terms.iter().map(|(factor, figure)| i128::from(*factor) * figure.upper).sum();
-    Figure::over(lower, upper, divisor)
 }
 
 /// "Nearest, halves up, from the float's exact value": the float times `each`. Nothing where the message is unusable.

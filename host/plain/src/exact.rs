@@ -1,8 +1,9 @@
-//! The figures of a test by document 001's equations as they are printed, in its own units and as fractions: what they are with no rounding after the
-//! readings' units. None of 01's whole-number forms is used, so that a slip in one of those shows here.
+//! The figures of a test and the shift speeds by document 001's equations as they are printed, in its own units and as fractions: what they are with no
+//! rounding after the readings' units. None of 01's whole-number forms is used, so that a slip in one of those shows here.
 
 use crate::bags::{judge, weights, Part, Readings, Sheet, NOX};
 use crate::fraction::{decimal, Fraction};
+use crate::gear::Vehicle;
 
 /// The figures of a part, in the units of [`crate::bags::PartResult`].
 pub struct ExactPart {
@@ -104,4 +105,20 @@ pub fn exact(s: &Sheet) -> ExactTest {
         sum(weights(s.class).unwrap().iter().zip(&parts).map(weigh))
     });
     ExactTest { parts, weighted, fuel: fuel(s, weighted) }
+}
+
+/// The sum of the terms 0 to `last` of e to the power -x, with x = 1.9 x Pn / (mk + 75). The terms alternate and, as x is at most 1.5, fall from the
+/// second on; so for an odd `last` the sum is below e to the power -x, and for an even one above.
+pub fn series(v: &Vehicle, last: i128) -> Fraction {
+    let x = decimal("1.9").times(tenths(v.p)).over(whole(v.m).plus(whole(75)));
+    // 1 - x/1 (1 - x/2 (1 - x/3 ..))
+    (1..=last).rev().fold(whole(1), |sum, k| whole(1).minus(x.times(sum).over(whole(k))))
+}
+
+/// Equations 6-1 and 6-2, the latter over ndv(i): the upshift speed from a gear in 0.001 km/h, with e for e to the power -x.
+pub fn upshift(v: &Vehicle, gear: usize, e: Fraction) -> Fraction {
+    let share = decimal("0.5753").times(e).minus(decimal(if gear == 1 { "0.1" } else { "0" }));
+    let engine = share.times(whole(v.s).minus(whole(v.n))).plus(whole(v.n));
+    let ndv = Fraction::new(v.ndv[gear - 1].into(), 100);
+    engine.over(ndv).times(whole(1000))
 }

@@ -1,5 +1,6 @@
 //! The gear sheet (01, Shift speeds to Corrections), refusals 1 to 9.
 
+use crate::figure::Figure;
 use crate::trace::{self, Phase, Second};
 use crate::{at, check, nowhere, Refusal};
 
@@ -74,6 +75,23 @@ pub fn speeds(v: &Vehicle) -> Speeds {
         lower: gears.clone().map(|i| side(i, ends.0)).collect(),
         upper: gears.map(|i| side(i, ends.1)).collect(),
     }
+}
+
+/// The upshift speeds of a vehicle in 0.001 km/h, from gear 1 on; or the first of the refusals 5 to 7. As include/ylhovesko.h says, "first the engine
+/// speed at which gears are shifted" is rounded outward "to 1/10,000 per minute, then that over ndv", whose unit is 0.01 per minute per km/h.
+///
+/// ```
+/// use plain::gear::{shift_speeds, Vehicle};
+/// let vehicle = Vehicle { p: 300, m: 200, s: 8000, n: 1200, ng: 3, ndv: [20_000, 12_000, 9_000, 0, 0, 0, 0, 0] };
+/// let ends: Vec<_> = shift_speeds(&vehicle).unwrap().iter().map(|speed| (speed.lower, speed.upper)).collect();
+/// assert_eq!(ends, [(18_498, 18_499), (36_497, 36_498)]);
+/// assert_eq!(shift_speeds(&Vehicle { ng: 9, ..vehicle }).unwrap_err().at, 5);
+/// ```
+pub fn shift_speeds(v: &Vehicle) -> Result<Vec<Figure>, Refusal> {
+    judge(v)?;
+    let Speeds { ndv, lower, upper } = speeds(v);
+    let engine = lower.into_iter().zip(upper).map(|(lower, upper)| Figure::over(lower, upper, ONE));
+    Ok(engine.zip(ndv).map(|(engine, ndv)| engine.scaled(10, ndv)).collect())
 }
 
 impl Speeds {
@@ -261,6 +279,9 @@ mod known_rows {
         let machine = Vehicle { p: 720, m: 199, s: 11_800, n: 1150, ng: 6, ndv: [13_366, 9491, 7616, 6569, 5885, 5404, 0, 0] };
         let (unit, band) = (10_000 * ONE, i128::from(machine.s - machine.n));
         let shift = speeds(&machine);
+        let printed = shift_speeds(&machine).unwrap();
+        assert!(printed.iter().map(|speed| in_tenths(speed.lower, 1000)).eq([285, 513, 639, 741, 827]));
+        assert!(printed.iter().map(|speed| in_tenths(speed.upper, 1000)).eq([285, 513, 639, 741, 827]));
         for sides in [&shift.lower, &shift.upper] {
             let speed = |i: usize| in_tenths(100 * sides[i], shift.ndv[i] * unit);
             assert_eq!([0, 1, 2, 3, 4].map(speed), [285, 513, 639, 741, 827]);

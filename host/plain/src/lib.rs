@@ -6,6 +6,7 @@
 
 pub mod bags;
 pub mod exact;
+pub mod figure;
 pub mod fraction;
 pub mod gear;
 pub mod preset;
