@@ -21,11 +21,19 @@ pub struct Case {
 /// The case as a line of vectors/gear.txt has it, up to its answer.
 impl fmt::Display for Case {
     fn fmt(&self, f: &mut fmt::Formatter) -> fmt::Result {
-        let Vehicle { power, mass, rated, idle, gears, ndv } = self.vehicle;
-        write!(f, "{} {power} {mass} {rated} {idle} {gears}", hex(&self.trace))?;
-        ndv.iter().try_for_each(|each| write!(f, " {each}"))?;
-        write!(f, " {} {}", self.buffer.len(), self.start)
+        write!(f, "{} {} {} {}", hex(&self.trace), vehicle_text(&self.vehicle), self.buffer.len(), self.start)
     }
+}
+
+/// The vehicle as a line of the stored cases has it.
+pub fn vehicle_text(v: &Vehicle) -> String {
+    let ratios: String = v.ndv.iter().map(|each| format!(" {each}")).collect();
+    format!("{} {} {} {} {}{ratios}", v.power, v.mass, v.rated, v.idle, v.gears)
+}
+
+/// The vehicle of the numbers of [`vehicle_text`].
+pub fn vehicle_of([power, mass, rated, idle, gears, ndv @ ..]: [u32; 13]) -> Vehicle {
+    Vehicle { power, mass, rated, idle, gears, ndv }
 }
 
 /// What an implementation says of a case, and the buffer after it.
@@ -36,9 +44,7 @@ pub fn read(line: u64, text: &str) -> (Case, Answer) {
     let words: Vec<&str> = text.split(' ').collect();
     assert_eq!(words.len(), 19, "line {line}");
     let n: Vec<usize> = words[1..18].iter().map(|word| word.parse().unwrap()).collect();
-    let [power, mass, rated, idle, gears] = [n[0], n[1], n[2], n[3], n[4]].map(|each| each as u32);
-    let ndv = std::array::from_fn(|gear| n[5 + gear] as u32);
-    let vehicle = Vehicle { power, mass, rated, idle, gears, ndv };
+    let vehicle = vehicle_of(std::array::from_fn(|at| n[at] as u32));
     let case = Case { trace: unhex(words[0]), vehicle, buffer: Random::new(line).bytes(n[13]), start: n[14] };
     let row = unhex(words[18]);
     let mut written = case.buffer.clone();
@@ -311,4 +317,15 @@ pub fn pair(seed: u64) -> Pair {
         damage_trace(random, &mut reduced);
     }
     Pair { normal, reduced }
+}
+
+/// The random vehicle of a seed, often with damage.
+pub fn any_vehicle(seed: u64) -> Vehicle {
+    let mut random = Random::new(seed);
+    let random = &mut random;
+    let mut any = if random.once_in(10) { close_vehicle(random).0 } else { vehicle(random) };
+    if random.once_in(4) {
+        damage_vehicle(random, &mut any);
+    }
+    any
 }

@@ -2,17 +2,18 @@
 
 use std::collections::BTreeSet;
 
-use compare::{bags, directed, gear, pairs, stored, Told};
+use compare::{bags, directed, gear, pairs, speeds, stored, Told};
 
 const BAGS: &str = include_str!("../../vectors/directed_bags.txt");
 const GEAR: &str = include_str!("../../vectors/directed_gear.txt");
 const PAIRS: &str = include_str!("../../vectors/directed_pairs.txt");
+const SPEEDS: &str = include_str!("../../vectors/directed_speeds.txt");
 
 /// The generator also compares each answer of the second implementation with what 01 says.
 #[test]
 fn as_generated() {
     let texts = directed::files().map(|(_, text)| text);
-    for (given, kept) in texts.iter().zip([BAGS, GEAR, PAIRS]) {
+    for (given, kept) in texts.iter().zip([BAGS, GEAR, PAIRS, SPEEDS]) {
         for (given, kept) in given.lines().zip(kept.lines()) {
             assert_eq!(given, kept);
         }
@@ -44,6 +45,29 @@ fn pairs_of_traces() {
     }
 }
 
+#[test]
+fn shift_speeds() {
+    for (line, text) in stored(SPEEDS) {
+        let (vehicle, answer) = speeds::read(text);
+        assert_eq!(speeds::by_core(&vehicle), answer, "line {line}");
+        assert!(answer.0[0] != 0 || speeds::hold_exact(&vehicle, &answer.1), "line {line}");
+    }
+}
+
+/// The rows of a vehicle with every place that they can name.
+fn vehicle_places() -> Vec<Told> {
+    let ranges = (1..=5 + 8).map(|place| [5, place, 0, 0]);
+    let ratios = (2..=8).map(|gear| [6, gear, 0, 0]);
+    ranges.chain(ratios).chain([[7, 0, 0, 0]]).collect()
+}
+
+#[test]
+fn every_place_of_a_vehicle() {
+    let seen: BTreeSet<Told> = stored(SPEEDS).map(|(_, text)| speeds::read(text).1 .0).collect();
+    let table: BTreeSet<Told> = [[0; 4]].into_iter().chain(vehicle_places()).collect();
+    assert_eq!(seen, table);
+}
+
 /// Every row with every place that it can name; of the seconds the first and the last that a trace can have.
 #[test]
 fn every_place() {
@@ -51,10 +75,9 @@ fn every_place() {
     let in_bags = stored(BAGS).map(|(_, text)| bags::read(text).1 .0);
     let in_pairs = stored(PAIRS).map(|(_, text)| pairs::read(text).1 .0);
     let seen: BTreeSet<Told> = in_gear.chain(in_bags).chain(in_pairs).collect();
-    let mut table: Vec<Told> = [1, 2, 3, 7, 8, 10, 15].map(|number| [number, 0, 0, 0]).to_vec();
+    let mut table: Vec<Told> = [1, 2, 3, 8, 10, 15].map(|number| [number, 0, 0, 0]).to_vec();
     table.extend([1, 2000].iter().flat_map(|&second| [4, 9].map(|number| [number, second, 0, 0])));
-    table.extend((1..=5 + 8).map(|place| [5, place, 0, 0]));
-    table.extend((2..=8).map(|gear| [6, gear, 0, 0]));
+    table.extend(vehicle_places());
     table.extend([10, 11, 12].map(|field| [11, 0, field, 0]));
     for part in 1..=3 {
         table.extend((1..=9).map(|field| [11, part, field, 0]));

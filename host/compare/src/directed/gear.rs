@@ -254,18 +254,18 @@ fn room(cases: &mut Cases) {
 }
 
 /// A speed beside or at an end of a shift speed. `away` is how far the engine speed is from that end, in 1/(10,000 x 2^32) per minute.
-struct Beside {
+pub(super) struct Beside {
     vehicle: [u32; 4],
-    first: bool,
+    pub(super) first: bool,
     ndv: u32,
-    speed: u32,
-    end: &'static str,
-    away: i32,
+    pub(super) speed: u32,
+    pub(super) end: &'static str,
+    pub(super) away: i32,
 }
 
 /// Found by search: the engine speed is so near an end that one unit of any constant, of the idle speed's factor or of the last term of the series puts
 /// it on the other side. No accepted sheet reaches an upper end exactly: 5,753 (s - n) times the upper end of e is never a multiple of 10 x 2^32.
-const BESIDE: [Beside; 10] = [
+pub(super) const BESIDE: [Beside; 10] = [
     Beside { vehicle: [144, 102, 13_299, 1000], first: true, ndv: 3233, speed: 1804, end: "lower", away: -4510 },
     Beside { vehicle: [1612, 428, 10_543, 303], first: true, ndv: 46_857, speed: 53, end: "lower", away: 0 },
     Beside { vehicle: [1356, 100, 7979, 1050], first: true, ndv: 6143, speed: 207, end: "lower", away: 816 },
@@ -280,7 +280,7 @@ const BESIDE: [Beside; 10] = [
 
 impl Beside {
     /// The ratio is that of gear 1, or of gear 2, among so many.
-    fn vehicle(&self, gears: u32) -> Vehicle {
+    pub(super) fn vehicle(&self, gears: u32) -> Vehicle {
         let [power, mass, rated, idle] = self.vehicle;
         let ndv = |gear: u32| match gear {
             _ if self.first => self.ndv - 100 * gear,
@@ -294,12 +294,13 @@ impl Beside {
         lent(trace(&format!("{phase}@{}", self.speed)), self.vehicle(gears))
     }
 
-    fn words(&self) -> String {
+    pub(super) fn words(&self) -> String {
         let side = match self.away {
-            0 => format!("at the {} end", self.end),
-            _ => format!("{} of the {} end by {}", if self.away < 0 { "short" } else { "past" }, self.end, self.away.abs()),
+            0 => "at".to_string(),
+            1.. => format!("by {} past", self.away),
+            _ => format!("by {} short of", -self.away),
         };
-        format!("{} of upshift {}", side, if self.first { "1 to 2" } else { "2 to 3" })
+        format!("{side} the {} end of upshift {}", self.end, if self.first { "1 to 2" } else { "2 to 3" })
     }
 
     /// Below the shift speed, above it, or too close to call.
@@ -450,9 +451,8 @@ fn faults() -> Vec<Fault> {
     all
 }
 
-/// "Lowest number first; within a number the first place": each fault with the next, and with all that come after it.
-fn order(cases: &mut Cases) {
-    let faults = faults();
+/// "Lowest number first; within a number the first place": each of the faults with the next, and with all that come after it.
+fn in_order(cases: &mut Cases, faults: &[Fault]) {
     let base = lent(trace("s a@100 c@200 d@100"), BESIDE[6].vehicle(8));
     cases.taken("the case that gets the faults below", base.clone());
     for first in 0..faults.len() - 1 {
@@ -467,6 +467,19 @@ fn order(cases: &mut Cases) {
         cases.refused(number, at, &format!("before {}", row(next, place)), with(&faults[first..first + 2]));
         cases.refused(number, at, "before all after it", with(&faults[first..]));
     }
+}
+
+fn order(cases: &mut Cases) {
+    in_order(cases, &faults());
+}
+
+/// The cases that the vehicle alone decides: its ranges, its ratios, its power, and the order of its faults.
+pub(super) fn of_vehicle() -> Vec<Directed> {
+    let mut cases = Cases::default();
+    [vehicle_ranges, ratios, power_to_mass].iter().for_each(|group| group(&mut cases));
+    let faults: Vec<Fault> = faults().into_iter().filter(|(number, ..)| (5..=7).contains(number)).collect();
+    in_order(&mut cases, &faults);
+    cases.0
 }
 
 /// All of them, in the order of the file; each buffer's noise has the number of its line there.
