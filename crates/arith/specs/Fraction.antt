@@ -1,5 +1,6 @@
 -- An exact value is a fraction of whole numbers. The operations compute at literals and reduce nothing, so that a formula of 01 can be
 -- written down as it stands. A denominator is positive wherever a statement is made of a fraction: `Between` asks it.
+use Prim.Native.Nat.{ℕ}
 use lib.IntN.{ℤ, pos, _+ℤ_, _-ℤ_, _*ℤ_}
 use lib.Signed.{_≤ℤ_, _<ℤ_}
 use Rattle.arith.specs.declared.Ends.{Ends}
@@ -10,6 +11,10 @@ pub record Fraction : Type 0 where
 
 abbrev pub whole : ℤ → Fraction
 whole n = record { num = n; den = pos 1 }
+
+-- a decimal number: n / d
+abbrev pub decimal : ℤ → ℕ → Fraction
+decimal n d = record { num = n; den = pos d }
 
 infixl 6 _+ᶠ_
 abbrev pub _+ᶠ_ : Fraction → Fraction → Fraction

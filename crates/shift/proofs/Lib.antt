@@ -1,3 +1,6 @@
 pub mod Terms
 pub mod Sides
 pub mod Counting
+pub mod ExactTerms
+pub mod ExactSpeeds
+pub mod Examples

@@ -1,21 +1,21 @@
 -- How large the two sides can be, and what an accepted sheet gives the shift speeds. Assumes nothing.
-use Prim.Native.Nat.{ℕ, _+_, _-_, _*_, _≤_, _<_}
+use Prim.Native.Nat.{ℕ, _+_, _-_, _*_, _≤_}
 use native.Mathlib.Nat.{le-refl}
 use native.Mathlib.Omega.{arith}
 use mathlib.Core.List.{List}
 use lib.Dec.{lit<, lit≤}
-use lib.IntN.{pos, _*ℤ_}
+use lib.IntN.{pos, natAbs, _*ℤ_}
 use mir.Syntax.{w64}
 use mir.Val.{SFits}
 use Rattle.arith.specs.declared.Ends.{Ends}
-use Rattle.arith.specs.Stages.{exactly, differenceOf, scaledBy}
+use Rattle.arith.specs.Stages.{exactly, scaledBy}
 use Rattle.arith.specs.Fitting.{SumFits, DifferenceFits, ScaledFits, Sized}
 use Rattle.arith.proofs.Size.{exactly-size, scaled-size, difference-size, wider-size, scaled-fits, sum-fits, difference-fits}
 use Rattle.vehicle.specs.declared.VehicleSheet.{VehicleSheet}
 use Rattle.vehicle.specs.Sheet.{Sound}
 use Rattle.shift.specs.Exponential.{Exponent}
-use Rattle.shift.specs.Speeds.{powerOf, shiftOf, InRange, Usable}
-use Rattle.shift.specs.Room.{SideFits}
+use Rattle.shift.specs.Speeds.{powerOf, sideUnit, higherPart, tenth, firstPart, shiftOf, InRange, Usable}
+use Rattle.shift.specs.Fitting.{SideFits}
 use Rattle.shift.proofs.Terms.{exponential-size}
 
 -- ---- a side
@@ -23,13 +23,16 @@ module _ {part : Ends} {span idle : ℕ} (f : SideFits part span idle) where
   pub rise-fits : ScaledFits (pos span) part
   rise-fits = scaled-fits {m = 20000} (pos span) (lit< tt) (f .wide) (f .size)
 
-  pub foot-fits : SFits w64 (pos 42949672960000 *ℤ pos idle)
+  pub foot-fits : SFits w64 (sideUnit *ℤ pos idle)
   foot-fits = record { sfits = omega (arith, f .low) }
 
-  pub side-fits : SumFits (scaledBy (pos span) part) (exactly (pos 42949672960000 *ℤ pos idle))
+  pub side-fits : SumFits (scaledBy (pos span) part) (exactly (sideUnit *ℤ pos idle))
   side-fits =
-      let foot : 42949672960000 * idle ≤ 128849018880000000 = omega (arith, f .low) in
+      let foot : natAbs (sideUnit *ℤ pos idle) ≤ 130000000000000000 = omega (arith, f .low) in
       sum-fits {m = 20000 * 120000000000000} (lit< tt) (scaled-size (pos span) (f .wide) (f .size)) (exactly-size _ foot)
+
+tenth-size : Sized 4300000000000 tenth
+tenth-size = exactly-size _ (lit≤ tt)
 
 -- ---- of an accepted sheet
 module _ {v : VehicleSheet} (s : Sound v) where
@@ -41,24 +44,24 @@ module _ {v : VehicleSheet} (s : Sound v) where
   pub part-fits : ScaledFits (pos 5753) (powerOf v)
   part-fits = scaled-fits (pos 5753) (lit< tt) (le-refl 5753) (exponential-size exponent)
 
-  part-size : Sized 115060000000000 (scaledBy (pos 5753) (powerOf v))
+  part-size : Sized 115060000000000 (higherPart v)
   part-size = scaled-size (pos 5753) (le-refl 5753) (exponential-size exponent)
 
-  pub less-fits : DifferenceFits (scaledBy (pos 5753) (powerOf v)) (exactly (pos 4294967296000))
-  less-fits = difference-fits (lit< tt) part-size (exactly-size (pos 4294967296000) (le-refl 4294967296000))
+  pub less-fits : DifferenceFits (higherPart v) tenth
+  less-fits = difference-fits (lit< tt) part-size tenth-size
 
-  less-size : Sized 119354967296000 (differenceOf (scaledBy (pos 5753) (powerOf v)) (exactly (pos 4294967296000)))
-  less-size = difference-size part-size (exactly-size (pos 4294967296000) (le-refl 4294967296000))
+  less-size : Sized (115060000000000 + 4300000000000) (firstPart v)
+  less-size = difference-size part-size tenth-size
 
   sided : {m : ℕ} {part : Ends} → m ≤ 120000000000000 → Sized m part → SideFits part (v .rated - v .idle) (v .idle)
   sided h j =
       let r = s .ranged in
       record { size = wider-size h j; wide = omega (arith, r .rated); low = r .idle .1 }
 
-  pub higher-fits : SideFits (scaledBy (pos 5753) (powerOf v)) (v .rated - v .idle) (v .idle)
+  pub higher-fits : SideFits (higherPart v) (v .rated - v .idle) (v .idle)
   higher-fits = sided (lit≤ tt) part-size
 
-  pub first-fits : SideFits (differenceOf (scaledBy (pos 5753) (powerOf v)) (exactly (pos 4294967296000))) (v .rated - v .idle) (v .idle)
+  pub first-fits : SideFits (firstPart v) (v .rated - v .idle) (v .idle)
   first-fits = sided (lit≤ tt) less-size
 
   pub shift-usable : Usable (shiftOf v)

@@ -6,13 +6,13 @@ use native.Mathlib.Nat.{lt-mul-div-succ, div-le-of-le-mul, mul-le-mul-left, mul-
 use native.Mathlib.Numerals.{add-one}
 use native.Mathlib.Omega.{arith}
 use lib.Dec.{eqb, lit≤}
-use lib.IntN.{pos, natAbs, _*ℤ_}
+use lib.IntN.{pos}
 use Rattle.arith.specs.declared.Ends.{Ends}
-use Rattle.arith.specs.Stages.{sumOf, differenceOf}
+use Rattle.arith.specs.Stages.{sumOf, differenceOf, scaledBy}
 use Rattle.arith.specs.Fitting.{SumFits, DifferenceFits, Sized}
-use Rattle.arith.proofs.Size.{mul-size, down-size, up-size, exactly-size, sum-size, difference-size, sum-fits, difference-fits, size-fits, wider-size}
+use Rattle.arith.proofs.Size.{exactly-size, sum-size, difference-size, scaled-size, divided-size, sum-fits, difference-fits, scaled-fits, size-fits, wider-size}
 use Rattle.shift.specs.Exponential.{nextTerm, termOf, withTerm, sumTo, exponentialOf, Exponent}
-use Rattle.shift.specs.Room.{TermFits}
+use Rattle.shift.specs.Fitting.{TermFits}
 
 -- ---- one turn, with the code's k + 1
 module _ (over under k : ℕ) where
@@ -54,14 +54,8 @@ module _ {over under : ℕ} (x : Exponent over under) where
   unfolding nextTerm bound
   next-size k {t} h =
       let some : 0 < under * suc k = omega (arith, mul-le-mul-right (suc k) (x .some)) in
-      let low : natAbs (pos over *ℤ t .lower) ≤ under * suc k * bound (suc k) =
-      omega (arith, mul-size (pos over) (t .lower) (le-refl over) (h .lower), enough over under k (bound k) (x .mild)) in
-      let high : natAbs (pos over *ℤ t .upper) ≤ under * suc k * bound (suc k) =
-      omega (arith, mul-size (pos over) (t .upper) (le-refl over) (h .upper), enough over under k (bound k) (x .mild)) in
-      record {
-        lower = down-size (pos over *ℤ t .lower) (under * suc k) (bound (suc k)) some low;
-        upper = up-size (pos over *ℤ t .upper) (under * suc k) (bound (suc k)) some high;
-      }
+      let times : Sized (over * bound k) (scaledBy (pos over) t) = scaled-size (pos over) (le-refl over) h in
+      divided-size (under * suc k) some (wider-size (enough over under k (bound k) (x .mild)) times)
 
   term-size : (k : ℕ) → Sized (bound k) (termOf over under k)
   unfolding termOf bound
@@ -92,15 +86,12 @@ total-most (suc k) = omega (arith, total-most k, bound-most (suc k))
 module _ {over under : ℕ} (x : Exponent over under) (k : ℕ) (few : k < 24) where
   pub term-fits : TermFits over under (termOf over under k) (k + 1)
   term-fits =
-      let t = term-size x k in
       let over-most : over ≤ 161250 = omega (arith, x .small, x .mild) in
       let room : over * 6442450945 < 2 ^ 63 = omega (arith, over-most) in
-      let small = wider-size (bound-most k) t in
       record {
         some = omega (arith, mul-le-mul-right (k + 1) (x .some));
         step = size-fits {m = under * (k + 1)} _ (omega (arith, mul-le-mul (x .small) (le-refl (k + 1)))) (le-refl _);
-        lower = size-fits _ room (mul-size (pos over) (termOf over under k .lower) (le-refl over) (small .lower));
-        upper = size-fits _ room (mul-size (pos over) (termOf over under k .upper) (le-refl over) (small .upper));
+        times = scaled-fits (pos over) room (le-refl over) (wider-size (bound-most k) (term-size x k));
       }
 
   pub with-fits : SumFits (sumTo over under k) (termOf over under (k + 1)) × DifferenceFits (sumTo over under k) (termOf over under (k + 1))

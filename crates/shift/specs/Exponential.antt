@@ -1,23 +1,18 @@
 -- 01, Shift speeds: the ends of e to the power -x, x = 19 P / (100 (m + 75)), in units of 1/2^32. Here x is over / under.
 use mathlib.Core.Bool.{cond}
-use Prim.Native.Nat.{ℕ, zero, suc, _*_, _%_, _≤_, _<_}
+use Prim.Native.Nat.{ℕ, zero, suc, _*_, _%_, _^_, _≤_, _<_}
 use lib.Dec.{eqb}
 use lib.IntN.{pos, _*ℤ_}
 use Rattle.arith.specs.declared.Ends.{Ends}
-use Rattle.arith.specs.Rounding.{divDown, divUp}
-use Rattle.arith.specs.Stages.{exactly, sumOf, differenceOf}
+use Rattle.arith.specs.Stages.{exactly, sumOf, differenceOf, scaledBy, dividedBy}
 
 -- "a(k) = a(k-1) x 19 P / (100 (m + 75) k) rounded down, b(k) the same from b(k-1) rounded up": a is a term's lower end, b its upper
 unfoldable pub nextTerm : ℕ → ℕ → Ends → ℕ → Ends
-nextTerm over under t k =
-    record {
-      lower = divDown (pos over *ℤ t .lower) (pos under *ℤ pos k);
-      upper = divUp (pos over *ℤ t .upper) (pos under *ℤ pos k);
-    }
+nextTerm over under t k = dividedBy (scaledBy (pos over) t) (pos under *ℤ pos k)
 
 -- "terms a(0) = b(0) = 2^32"
 unfoldable pub termOf : ℕ → ℕ → ℕ → Ends
-termOf over under zero = exactly (pos 4294967296)
+termOf over under zero = exactly (pos (2 ^ 32))
 termOf over under (suc k) = nextTerm over under (termOf over under k) (suc k)
 
 -- even terms are added, odd ones taken away

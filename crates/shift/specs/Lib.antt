@@ -1,3 +1,4 @@
 pub mod Exponential
-pub mod Room
+pub mod Fitting
 pub mod Speeds
+pub mod Exact

@@ -1,6 +1,6 @@
 -- 01, Shift speeds: the shift speeds of a vehicle, and a speed held against them in whole numbers. Gears and shift speeds count from 0 here.
 use mathlib.Core.Bool.{Bool, true, false, not, cond, _&&_}
-use Prim.Native.Nat.{ℕ, zero, suc, _+_, _-_, _*_, _≤_, _<_}
+use Prim.Native.Nat.{ℕ, zero, suc, _+_, _-_, _*_, _^_, _≤_, _<_}
 use mathlib.Core.List.{List}
 use lib.ListN.{getD}
 use lib.Dec.{eqb, ltb}
@@ -18,17 +18,32 @@ use Rattle.shift.specs.Exponential.{exponentialOf}
 abbrev pub powerOf : VehicleSheet → Ends
 powerOf v = exponentialOf (19 * v .power) (100 * (v .mass + 75))
 
--- "10,000 x 2^32 times the engine speed in the bracket, once with each end": part (s - n) + n, where `part` is 10,000 x 2^32 times the fraction
+-- "10,000 x 2^32 times the engine speed in the bracket, once with each end"
+abbrev pub sideUnit : ℤ
+sideUnit = pos (10000 * 2 ^ 32)
+
+-- part (s - n) + n, where `part` is the fraction of it in these units
 unfoldable pub sideOf : Ends → ℕ → ℕ → Ends
-sideOf part span idle = sumOf (scaledBy (pos span) part) (exactly (pos 42949672960000 *ℤ pos idle))
+sideOf part span idle = sumOf (scaledBy (pos span) part) (exactly (sideUnit *ℤ pos idle))
+
+-- "0.5753 e"
+abbrev pub higherPart : VehicleSheet → Ends
+higherPart v = scaledBy (pos 5753) (powerOf v)
+
+-- "0.5753 e - 0.1"
+abbrev pub tenth : Ends
+tenth = exactly (pos (1000 * 2 ^ 32))
+
+abbrev pub firstPart : VehicleSheet → Ends
+firstPart v = differenceOf (higherPart v) tenth
 
 -- upshift i to i+1, i = 2 to ng-1: "0.5753 e (s - n) + n"
 unfoldable pub higherSide : VehicleSheet → Ends
-higherSide v = sideOf (scaledBy (pos 5753) (powerOf v)) (v .rated - v .idle) (v .idle)
+higherSide v = sideOf (higherPart v) (v .rated - v .idle) (v .idle)
 
 -- upshift 1 to 2: "(0.5753 e - 0.1)(s - n) + n"
 unfoldable pub firstSide : VehicleSheet → Ends
-firstSide v = sideOf (differenceOf (scaledBy (pos 5753) (powerOf v)) (exactly (pos 4294967296000))) (v .rated - v .idle) (v .idle)
+firstSide v = sideOf (firstPart v) (v .rated - v .idle) (v .idle)
 
 -- all that a speed is held against: the shift speeds are one of the two sides over ndv
 unfoldable pub shiftOf : VehicleSheet → Shift
@@ -36,7 +51,7 @@ shiftOf v = record { first = firstSide v; higher = higherSide v; ndv = v .ndv; g
 
 -- "10 x speed x ndv x 2^32"
 abbrev pub leftOf : ℕ → ℕ → ℤ
-leftOf speed ndv = pos 42949672960 *ℤ (pos speed *ℤ pos ndv)
+leftOf speed ndv = pos (10 * 2 ^ 32) *ℤ (pos speed *ℤ pos ndv)
 
 -- "Below the lower side is below; above the upper side is above; at either or between is too close to call"
 abbrev pub below : ℕ → ℕ → Ends → Bool

@@ -4,7 +4,7 @@ use arith::Ends;
 use vehicle::VehicleSheet;
 ghost use mathlib.Core.Path.{_≡_};
 ghost use Rattle.shift.specs.Exponential.{nextTerm, withTerm, exponentialOf, Exponent};
-ghost use Rattle.shift.specs.Room.{TermFits, SideFits};
+ghost use Rattle.shift.specs.Fitting.{TermFits, SideFits};
 ghost use Rattle.shift.specs.Speeds.{sideOf, shiftOf, leftOf, sideAt, oneOf, tallyOf, ownGear, InRange, Usable};
 ghost use Rattle.vehicle.specs.Sheet.{Sound};
 ghost use mathlib.Core.Bool.{cond};
@@ -17,12 +17,8 @@ fn next_term(over: u32, under: u32, t: Ends, k: u32) -> Ends
     requires { ⌜ TermFits over under t k ⌝ }
     ensures { λ r. ⌜ r ≡ nextTerm over under t k ⌝ }
 {
-    let p = arith::whole(over);
-    let d = arith::whole(under) * arith::whole(k);
-    Ends {
-        lower: arith::div_down(p * t.lower, d),
-        upper: arith::div_up(p * t.upper, d),
-    }
+    let times = arith::scaled(arith::whole(over), t);
+    arith::divided(times, arith::whole(under) * arith::whole(k))
 }
 
 // The sum with the k-th term.

@@ -10,7 +10,7 @@ use Rattle.arith.specs.Fitting.{Sized}
 use Rattle.arith.proofs.Size.{exactly-size, scaled-size, sum-size}
 use Rattle.vehicle.specs.declared.VehicleSheet.{VehicleSheet}
 use Rattle.vehicle.specs.Sheet.{Sound}
-use Rattle.shift.specs.Room.{SideFits}
+use Rattle.shift.specs.Fitting.{SideFits}
 use Rattle.shift.specs.Speeds.{sideOf, firstSide, higherSide, shiftOf, sideAt}
 use Rattle.shift.specs.declared.Shift.{Shift}
 use Rattle.shift.proofs.Sides.{first-fits, higher-fits}

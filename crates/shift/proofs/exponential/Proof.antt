@@ -1,7 +1,7 @@
 -- `shift::exponential` meets its contract. The invariant: the term is the k-th, and the sum is that of the terms up to it. The measure is what is
 -- left of 23. Assumes nothing.
 use mathlib.Core.Path.{_≡_, sym, ap, _∙_}
-use Prim.Native.Nat.{_+_, _-_, _≤_, _<_}
+use Prim.Native.Nat.{_+_, _-_, _≤_}
 use native.Mathlib.Omega.{arith}
 use lib.Dec.{lit<}
 use Rattle.arith.specs.declared.Ends.{Ends}

@@ -8,6 +8,7 @@ use mir.Syntax.{w64}
 use mir.Val.{SFits, toZ, ofZ}
 use mir.ValLaws.{toZ-ofZ}
 use Rattle.arith.proofs.Machine.{handed}
+use Rattle.shift.specs.Speeds.{leftOf}
 use Rattle.shift.proofs.left.Statement.{statement}
 use Rattle.shift.proofs.left.Tie as tie
 
@@ -24,7 +25,7 @@ module _ (c : tie.After-whole2) where
   inner : SFits w64 (pos (c .before .before .args .speed) *ℤ pos (c .before .before .args .ndv))
   inner = record { sfits = omega (arith, most) }
 
-  outer : SFits w64 (pos 42949672960 *ℤ (pos (c .before .before .args .speed) *ℤ pos (c .before .before .args .ndv)))
+  outer : SFits w64 (leftOf (c .before .before .args .speed) (c .before .before .args .ndv))
   outer = record { sfits = omega (arith, most) }
 
 mul-result : tie.Need-mul-result

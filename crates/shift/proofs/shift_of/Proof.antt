@@ -1,8 +1,6 @@
 -- `shift::shift_of` meets its contract: each stage fits by the sheet's ranges. Assumes nothing.
 use mathlib.Core.Path.{_≡_}
-use lib.IntN.{pos}
-use Rattle.arith.specs.Stages.{exactly, differenceOf, scaledBy}
-use Rattle.shift.specs.Speeds.{powerOf, firstSide, higherSide, shiftOf}
+use Rattle.shift.specs.Speeds.{powerOf, higherPart, firstPart, firstSide, higherSide, shiftOf}
 use Rattle.shift.proofs.Sides.{exponent, part-fits, less-fits, first-fits, higher-fits}
 use borrow.Author.Needs.{needs}
 use Rattle.shift.proofs.shift_of.Statement.{statement}
@@ -12,10 +10,10 @@ use Rattle.shift.proofs.shift_of.Tie as tie
 abbrev power-is : (c : tie.After-exponential) → c .exponential .result ≡ powerOf (c .before .before .before .args .v)
 power-is c = c .exponential .ensures
 
-part-is : (c : tie.After-scaled) → c .scaled .result ≡ scaledBy (pos 5753) (powerOf (c .before .before .before .before .args .v))
+part-is : (c : tie.After-scaled) → c .scaled .result ≡ higherPart (c .before .before .before .before .args .v)
 part-is c = rw (power-is (c .before)) at (c .scaled .ensures)
 
-less-is : (c : tie.After-difference) → c .difference .result ≡ differenceOf (scaledBy (pos 5753) (powerOf (c .before .before .before .before .before .before .args .v))) (exactly (pos 4294967296000))
+less-is : (c : tie.After-difference) → c .difference .result ≡ firstPart (c .before .before .before .before .before .before .args .v)
 less-is c = rw (part-is (c .before .before), c .before .exactly .ensures) at (c .difference .ensures)
 
 scaled-requires : tie.Need-scaled-requires

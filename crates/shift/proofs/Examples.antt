@@ -1,0 +1,77 @@
+-- Comparisons at their edges, computed by the definitions themselves. Assumes nothing.
+use mathlib.Core.Path.{_≡_, refl}
+use mathlib.Core.Bool.{true, false}
+use mathlib.Core.List.{[], _∷_}
+use Prim.Native.Nat.{ℕ}
+use lib.IntN.{pos}
+use Rattle.arith.specs.declared.Ends.{Ends}
+use Rattle.arith.specs.Rounding.{divDown, divUp}
+use Rattle.arith.specs.Stages.{exactly, sumOf, differenceOf, scaledBy, dividedBy}
+use Rattle.vehicle.specs.declared.VehicleSheet.{VehicleSheet}
+use Rattle.shift.specs.declared.Shift.{Shift}
+use Rattle.shift.specs.declared.Own.{Own}
+use Rattle.shift.specs.Exponential.{nextTerm, termOf, withTerm, sumTo, exponentialOf}
+use Rattle.shift.specs.Speeds.{sideOf, higherSide, leftOf, below, above, tooClose, tallyOf, ownGear}
+
+-- the ends of e for the machine with 72.0 kW and 199 kg: x is 13,680 / 27,400
+ends : exponentialOf 13680 27400 ≡ record { lower = pos 2606931512; upper = pos 2606931537 }
+unfolding exponentialOf sumTo withTerm termOf nextTerm dividedBy divDown divUp exactly sumOf differenceOf scaledBy
+ends = refl
+
+-- ---- at the lower side a speed is too close. This sheet has one that is exactly there, 123.7 km/h in each gear from the second on
+abbrev exact : VehicleSheet
+exact = record { power = 1612; mass = 428; rated = 10540; idle = 300; gears = 3; ndv = 9000 ∷ 2833 ∷ 2800 ∷ 0 ∷ 0 ∷ 0 ∷ 0 ∷ 0 ∷ [] }
+
+abbrev side : Ends
+side = record { lower = leftOf 1237 2833; upper = pos 150513737336924160 }
+
+at-the-lower-side : higherSide exact ≡ side
+unfolding higherSide sideOf exponentialOf sumTo withTerm termOf nextTerm dividedBy divDown divUp exactly sumOf differenceOf scaledBy
+at-the-lower-side = refl
+
+too-close : (below 1237 2833 side ≡ false) × (tooClose 1237 2833 side ≡ true)
+too-close = (refl, refl)
+
+a-tenth-less : below 1236 2833 side ≡ true
+a-tenth-less = refl
+
+a-tenth-more : above 1238 2833 side ≡ true
+a-tenth-more = refl
+
+-- ---- eight gears, of which the seventh is left at 30.0 km/h
+abbrev machine : Shift
+machine = record {
+  first = exactly (leftOf 300 2000);
+  higher = exactly (leftOf 300 2000);
+  ndv = 8000 ∷ 7000 ∷ 6000 ∷ 5000 ∷ 4000 ∷ 3000 ∷ 2000 ∷ 1000 ∷ [];
+  gears = 8;
+}
+
+abbrev own : ℕ → Own
+own gear = record { gear = gear; close = false }
+
+-- the top upshift
+past-the-top-upshift : ownGear machine true 301 ≡ own 8
+unfolding ownGear tallyOf exactly
+past-the-top-upshift = refl
+
+before-the-top-upshift : ownGear machine true 299 ≡ own 7
+unfolding ownGear tallyOf exactly
+before-the-top-upshift = refl
+
+at-the-top-upshift : ownGear machine true 300 ≡ record { gear = 7; close = true }
+unfolding ownGear tallyOf exactly
+at-the-top-upshift = refl
+
+-- cruise and deceleration are not held against it, and start from gear 2
+cruise-past-the-others : ownGear machine false 300 ≡ own 8
+unfolding ownGear tallyOf exactly
+cruise-past-the-others = refl
+
+cruise-below-all : ownGear machine false 1 ≡ own 2
+unfolding ownGear tallyOf exactly
+cruise-below-all = refl
+
+acceleration-below-all : ownGear machine true 1 ≡ own 1
+unfolding ownGear tallyOf exactly
+acceleration-below-all = refl
