@@ -15,7 +15,7 @@ use Rattle.stage.specs.Combination.{combinationOf}
 use Rattle.stage.specs.Part.{gtr, kelvinOf, volumeOf, concentrationOf, gasVolumeOf, massOf, vapourOf, dryOf, khOf, noxMassOf, rateOf}
 use Rattle.stage.specs.Test.{weightsOf, weightedOf, fuelOf}
 use Rattle.stage.specs.Ranges.{VolumeRanges, KhRanges}
-use Rattle.stage.proofs.Sizes.{kelvin-least, vapour-most, divisor-least}
+use Rattle.stage.proofs.Steps.{kelvin-least, vapour-most, divisor-least}
 use Rattle.bag.specs.declared.Part.{Part}
 use Rattle.part.specs.Part.{volumeIn}
 use Rattle.claims.specs.Exact.{count, decimal, exactVolume, exactH, exactKh, percentOf}

@@ -1,5 +1,5 @@
 -- Demand 3, widths: where each part of the class covers at least 1,000 m and has at most 200 cubic metres, the weighted ends of HC, CO and CO2 are at
--- most 300 apart, and those of NOx at most 2,000 where both ends of its concentration are within 256 ppm of zero. Assumes nothing.
+-- most 247 apart, and those of NOx at most 1,943 where both ends of its concentration are within 256 ppm of zero; asked are 300 and 2,000. Assumes nothing.
 use mathlib.Core.Path.{_≡_, refl, ap}
 use mathlib.Core.Bool.{Bool, true, false, cond}
 use Prim.Native.Nat.{ℕ, suc, _+_, _*_, _≤_, _<_}
@@ -29,7 +29,8 @@ use Rattle.stage.specs.Combination.{combinationOf}
 use Rattle.stage.specs.Part.{gtr, kelvinOf, volumeOf, gOf, qOf, concentrationOf, gasVolumeOf, massOf, khOf, noxMassOf, rateOf}
 use Rattle.stage.specs.Test.{weightsOf, weightedOf}
 use Rattle.stage.specs.Ranges.{largestConcentration}
-use Rattle.stage.proofs.Sizes.{kelvin-least, vapour-most, divisor-least, kh-size, weights-whole}
+use Rattle.stage.proofs.Steps.{kelvin-least, vapour-most, divisor-least}
+use Rattle.stage.proofs.Sizes.{kh-size, weights-whole}
 use Rattle.part.specs.Part.{endsAt, gIn, volumeIn, gasMass, massIn, ratesOf, partOf}
 use Rattle.part.specs.Ranges.{PartRanges}
 use Rattle.part.specs.declared.Sides.{Sides}
@@ -103,9 +104,9 @@ weighted-narrow {w} weights e a b c =
     (wider-narrow (omega arith) (combination-narrow (weights .first) (weights .second) (weights .third) a b c))
 
 -- ---- a part
--- of the mass of each gas
-abbrev massWidth : Gas → ℕ
-massWidth gas = cond (isNOx gas) 1941 245
+-- of the mass, of NOx and of another gas
+abbrev massWidth : Bool → ℕ
+massWidth nox = cond nox 1941 245
 
 -- the concentration from what was read
 abbrev concentrationOn : Gas → Triple → Sides → Ends
@@ -177,30 +178,30 @@ module _ {t : Triple} {p : Part} {sides : Sides} {u : PartUnits} (read : ReadAs 
       let mass = mass-narrow d 51 108 most (omega arith) gas-volume in
       divided-narrow {q = 1940} 65536 (omega arith) (wider-narrow (omega arith) (product-narrow mass-size (kh-size (kh-ranges r)) mass kh-narrow))
 
-  mass-in : (gas : Gas) → Ordinary gas t p u → Narrow (massWidth gas) (endsAt gas (massIn t p sides))
+  mass-in : (gas : Gas) → Ordinary gas t p u → Narrow (massWidth (isNOx gas)) (endsAt gas (massIn t p sides))
   mass-in gas o = rw (mass-at gas) (go (isNOx gas) (o .nox))
     where
       go : (b : Bool) → (b ≡ true → Sized 1048576 (concentrationIn gas t u)) →
-          Narrow (cond b 1941 245) (cond b (noxMassOf (dryMassIn gas t p sides) (khIn p)) (dryMassIn gas t p sides))
+          Narrow (massWidth b) (cond b (noxMassOf (dryMassIn gas t p sides) (khIn p)) (dryMassIn gas t p sides))
       go true c = nox-mass gas o (rw (concentration-is gas) (c refl))
       go false c = dry-mass gas o
 
-  rate-in : (gas : Gas) → Ordinary gas t p u → Narrow (suc (massWidth gas)) (endsAt gas (partOf t p sides .rate))
+  rate-in : (gas : Gas) → Ordinary gas t p u → Narrow (suc (massWidth (isNOx gas))) (endsAt gas (partOf t p sides .rate))
   unfolding partOf ratesOf
   rate-in gas o = rw (each-at gas) (rate-narrow (p .distance) (o .distance) (mass-in gas o))
 
 -- ---- the test
 module _ {s : BagSheet} {readings : TestSides} {u : TestUnits} (t : Tested s) (read : TestReadAs s readings u) (r : PartsRanges s readings) where
-  third-in : (gas : Gas) → OrdinaryTest gas s u → Narrow (suc (massWidth gas)) (endsAt gas (thirdPart s (readings .third) .rate))
+  third-in : (gas : Gas) → OrdinaryTest gas s u → Narrow (suc (massWidth (isNOx gas))) (endsAt gas (thirdPart s (readings .third) .rate))
   unfolding thirdPart nothing
   third-in gas o = go (eqb (s .class) 3) (eqb-true (s .class) 3)
     where
       go : (b : Bool) → (b ≡ true → s .class ≡ 3) →
-          Narrow (suc (massWidth gas)) (endsAt gas (cond b (partOf (s .triple) (s .third) (readings .third)) noPart .rate))
+          Narrow (suc (massWidth (isNOx gas))) (endsAt gas (cond b (partOf (s .triple) (s .third) (readings .third)) noPart .rate))
       go true f = rate-in (read .third (f refl)) (r .third (f refl)) (t .triple .d .0) gas (o .third (f refl))
       go false f = rw (each-at gas) (wider-narrow (omega arith) (exactly-narrow (pos 0)))
 
-  weighted-in : (gas : Gas) → OrdinaryTest gas s u → Narrow (suc (suc (massWidth gas))) (endsAt gas (resultOf s (partsIn s readings) .weighted))
+  weighted-in : (gas : Gas) → OrdinaryTest gas s u → Narrow (suc (suc (massWidth (isNOx gas)))) (endsAt gas (resultOf s (partsIn s readings) .weighted))
   unfolding resultOf partsIn weightedGases
   weighted-in gas o =
       rw (each-at gas)
@@ -209,22 +210,22 @@ module _ {s : BagSheet} {readings : TestSides} {u : TestUnits} (t : Tested s) (r
       (third-in gas o))
 
 -- each of the two stages after the mass adds one
-two-more : (b : Bool) → suc (suc (cond b 1941 245)) ≤ cond b 1943 247
+two-more : (nox : Bool) → suc (suc (massWidth nox)) ≤ provenWidth nox
 two-more true = omega arith
 two-more false = omega arith
 
+-- which is within what is asked
+asked : (nox : Bool) → provenWidth nox ≤ widthOf nox
+asked true = omega arith
+asked false = omega arith
+
 module _ (s : BagSheet) (u : TestUnits) (r : TestResult) (e : testAnswer s ≡ Result r) (c : TestConverted s u) where
-  pub proven-widths : (gas : Gas) → OrdinaryTest gas s u → Narrow (provenWidth gas) (endsAt gas (r .weighted))
+  pub proven-widths : (gas : Gas) → OrdinaryTest gas s u → Narrow (provenWidth (isNOx gas)) (endsAt gas (r .weighted))
   proven-widths gas o =
       let a = accepted-result e in
       let sound = accepted-sound s (a .sheet) in
       let ranges = parts-ranges sound (a .read) (a .late) in
       rw (a .result) (wider-narrow (two-more (isNOx gas)) (weighted-in (sound .tested) (test-read-as (a .read) c) ranges gas o))
 
-  -- which is within what is asked
-  pub widths : (gas : Gas) → OrdinaryTest gas s u → Narrow (widthOf gas) (endsAt gas (r .weighted))
-  widths gas o = wider-narrow (go (isNOx gas)) (proven-widths gas o)
-    where
-      go : (b : Bool) → cond b 1943 247 ≤ cond b 2000 300
-      go true = omega arith
-      go false = omega arith
+  pub widths : (gas : Gas) → OrdinaryTest gas s u → Narrow (widthOf (isNOx gas)) (endsAt gas (r .weighted))
+  widths gas o = wider-narrow (asked (isNOx gas)) (proven-widths gas o)

@@ -1,2 +1,4 @@
 pub mod UpTo
+pub mod Steps
 pub mod Sizes
+pub mod Examples

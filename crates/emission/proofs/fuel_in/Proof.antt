@@ -8,6 +8,9 @@ fuel-requires : tie.Need-fuel-requires
 fuel-requires c κs =
     let f = c .pre .0 in
     let w = c .pre .1 in
+    let hc = w HC in
+    let co = w CO in
+    let co2 = w CO2 in
     record {
       k-most = f .k .1;
       f1-most = f .hc .1;
@@ -15,9 +18,9 @@ fuel-requires c κs =
       f3-most = f .co2 .1;
       light = f .density .0;
       heavy = f .density .1;
-      hc-size = w HC;
-      co-size = w CO;
-      co2-size = w CO2;
+      hc-size = search;
+      co-size = search;
+      co2-size = search;
     }
 
 pub fuel-in-spec : {M : Type 1} → statement M

@@ -9,7 +9,7 @@ use Rattle.arith.proofs.Machine.{handed}
 use Rattle.arith.proofs.Size.{exactly-size, scaled-fits, product-fits, difference-fits}
 use Rattle.stage.specs.Part.{netOf, concentrationOf}
 use Rattle.stage.proofs.UpTo.{upTo-size}
-use Rattle.stage.proofs.Sizes.{q-positive, rest-upTo, from-air-size, from-bag-size, net-size}
+use Rattle.stage.proofs.Steps.{q-positive, rest-upTo, from-air-size, from-bag-size, net-size}
 use Rattle.stage.proofs.concentration.Statement.{statement}
 use Rattle.stage.proofs.concentration.Tie as tie
 

@@ -1,7 +1,7 @@
 -- `stage::dry` meets its contract. Assumes nothing.
 use native.Mathlib.Omega.{arith}
 use borrow.Author.Needs.{needs}
-use Rattle.stage.proofs.Sizes.{vapour-most}
+use Rattle.stage.proofs.Steps.{vapour-most}
 use Rattle.stage.proofs.dry.Statement.{statement}
 use Rattle.stage.proofs.dry.Tie as tie
 

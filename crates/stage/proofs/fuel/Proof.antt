@@ -10,7 +10,7 @@ use Rattle.arith.proofs.Parts.{zs}
 use Rattle.arith.proofs.Machine.{handed}
 use Rattle.arith.proofs.Size.{scaled-fits}
 use Rattle.stage.specs.Test.{fuelOf}
-use Rattle.stage.proofs.Sizes.{carbon-size}
+use Rattle.stage.proofs.Steps.{carbon-size}
 use Rattle.stage.proofs.fuel.Statement.{statement}
 use Rattle.stage.proofs.fuel.Tie as tie
 

@@ -2,7 +2,7 @@
 use native.Mathlib.Omega.{arith}
 use borrow.Author.Needs.{needs}
 use Rattle.stage.specs.Part.{humidityGood}
-use Rattle.stage.proofs.Sizes.{vapour-most}
+use Rattle.stage.proofs.Steps.{vapour-most}
 use Rattle.stage.proofs.humidity_good.Statement.{statement}
 use Rattle.stage.proofs.humidity_good.Tie as tie
 

@@ -9,7 +9,7 @@ use mir.Val.{toZ, ofZ}
 use Rattle.arith.proofs.Parts.{zs}
 use Rattle.arith.proofs.Machine.{handed}
 use Rattle.stage.specs.Part.{khOf, dryOf, vapourOf}
-use Rattle.stage.proofs.Sizes.{vapour-most, humid, divisor-least}
+use Rattle.stage.proofs.Steps.{vapour-most, humid, divisor-least}
 use Rattle.stage.proofs.kh.Statement.{statement}
 use Rattle.stage.proofs.kh.Tie as tie
 

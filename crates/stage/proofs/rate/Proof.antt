@@ -15,7 +15,7 @@ distance-is : (c : tie.After-whole) → toZ w64 (ofZ w64 (c .whole .result)) ≡
 distance-is c = handed (c .whole .result) (c .whole .ok) (c .whole .ensures)
 
 scaled-requires : tie.Need-scaled-requires
-scaled-requires c κs = scaled-fits {m = 1000} (pos 1000) (omega arith) (omega arith) (c .pre .mass-size)
+scaled-requires c κs = scaled-fits {m = 1000} _ (omega arith) (omega arith) (c .pre .mass-size)
 
 divided-requires : tie.Need-divided-requires
 divided-requires c κs = rw (distance-is c) (omega (zs, c .before .before .pre .distance-least))

@@ -10,7 +10,7 @@ use mir.ValLaws.{toZ-ofZ}
 use Rattle.arith.proofs.Parts.{zs, mul-parts}
 use Rattle.arith.proofs.Machine.{zs64, handed}
 use Rattle.stage.specs.Part.{gtr, kelvinOf, volumeOf}
-use Rattle.stage.proofs.Sizes.{kelvin-least, kelvin-most, swept-most}
+use Rattle.stage.proofs.Steps.{kelvin-least, kelvin-most, swept-most}
 use Rattle.stage.proofs.volume.Statement.{statement}
 use Rattle.stage.proofs.volume.Tie as tie
 
