@@ -17,7 +17,7 @@ use Rattle.bag.specs.Sheet.{densityAt}
 use Rattle.bag.specs.Sound.{Tested}
 use Rattle.bag.proofs.Sound.{accepted-sound}
 use Rattle.stage.specs.Part.{gOf, qOf, noxMassOf}
-use Rattle.stage.specs.Test.{weightsOf}
+use Rattle.weigh.specs.Test.{weightsOf}
 use Rattle.part.specs.declared.Sides.{Sides}
 use Rattle.part.specs.Part.{endsAt, gIn, gasMass, massIn, ratesOf, partOf}
 use Rattle.part.specs.Ranges.{PartRanges}

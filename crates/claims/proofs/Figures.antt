@@ -4,7 +4,7 @@ use Rattle.arith.specs.Rounding.{divDown, divUp}
 use Rattle.arith.specs.Stages.{exactly, sumOf, differenceOf, scaledBy, hullOf, productOf, dividedBy}
 use Rattle.stage.specs.Combination.{combinationOf}
 use Rattle.stage.specs.Part.{volumeOf, gOf, concentrationOf, gasVolumeOf, massOf, khOf, rateOf}
-use Rattle.stage.specs.Test.{weightedOf, fuelOf, verdictOf}
+use Rattle.weigh.specs.Test.{weightedOf, fuelOf, verdictOf}
 use Rattle.runs.specs.Runs.{takes, runJudged, runNext, rowAfter, nextAfter, smooth, smoothed}
 use Rattle.claims.specs.Figures.{All, figures}
 

@@ -10,10 +10,10 @@ use Rattle.arith.specs.Fraction.{Fraction, whole, _+ᶠ_, _-ᶠ_, _*ᶠ_, _/ᶠ
 use Rattle.arith.proofs.Parts.{up, zs, add-parts, sub-parts, mul-parts}
 use Rattle.arith.proofs.Ring.{one-mul, mul-one, mul-pos, products}
 use Rattle.arith.proofs.Enclosure.{exactly-holds, sum-holds, difference-holds, scaled-holds, product-holds, divided-holds, same-value}
-use Rattle.stage.specs.declared.Weights.{Weights}
+use Rattle.weigh.specs.declared.Weights.{Weights}
 use Rattle.stage.specs.Combination.{combinationOf}
 use Rattle.stage.specs.Part.{gtr, kelvinOf, volumeOf, concentrationOf, gasVolumeOf, massOf, vapourOf, dryOf, khOf, noxMassOf, rateOf}
-use Rattle.stage.specs.Test.{weightsOf, weightedOf, fuelOf}
+use Rattle.weigh.specs.Test.{weightsOf, weightedOf, fuelOf}
 use Rattle.stage.specs.Ranges.{VolumeRanges, KhRanges}
 use Rattle.stage.proofs.Steps.{kelvin-least, vapour-most, divisor-least}
 use Rattle.bag.specs.declared.Part.{Part}

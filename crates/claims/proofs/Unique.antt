@@ -20,6 +20,7 @@ use Rattle.gear.proofs as gear
 use Rattle.reading.proofs as reading
 use Rattle.bag.proofs as bag
 use Rattle.stage.proofs as stage
+use Rattle.weigh.proofs as weigh
 use Rattle.part.proofs as part
 use Rattle.emission.proofs as emission
 use Rattle.preset.proofs as preset
@@ -209,17 +210,24 @@ stage-nox-mass-unique κs a x y ws vs pre h h′ = (h ∙ sym h′, refl)
 pub stage-rate-unique : Coincide 0 stage.rate.Kinds.ps stage.rate.Kinds.r stage.rate.Reads.Pre stage.rate.Reads.Post
 stage-rate-unique κs a x y ws vs pre h h′ = (h ∙ sym h′, refl)
 
-pub stage-weights-of-unique : Coincide 0 stage.weights_of.Kinds.ps stage.weights_of.Kinds.r stage.weights_of.Reads.Pre stage.weights_of.Reads.Post
-stage-weights-of-unique κs a x y ws vs pre h h′ = (h ∙ sym h′, refl)
+pub stage-signed-unique : Coincide 0 stage.signed.Kinds.ps stage.signed.Kinds.r stage.signed.Reads.Pre stage.signed.Reads.Post
+stage-signed-unique κs a x y ws vs pre h h′ = (h ∙ sym h′, refl)
 
-pub stage-weighted-unique : Coincide 0 stage.weighted.Kinds.ps stage.weighted.Kinds.r stage.weighted.Reads.Pre stage.weighted.Reads.Post
-stage-weighted-unique κs a x y ws vs pre h h′ = (h ∙ sym h′, refl)
+pub stage-combination-unique : Coincide 0 stage.combination.Kinds.ps stage.combination.Kinds.r stage.combination.Reads.Pre stage.combination.Reads.Post
+stage-combination-unique κs a x y ws vs pre h h′ = (h ∙ sym h′, refl)
 
-pub stage-fuel-unique : Coincide 0 stage.fuel.Kinds.ps stage.fuel.Kinds.r stage.fuel.Reads.Pre stage.fuel.Reads.Post
-stage-fuel-unique κs a x y ws vs pre h h′ = (h ∙ sym h′, refl)
+-- ---- weigh
+pub weigh-weights-of-unique : Coincide 0 weigh.weights_of.Kinds.ps weigh.weights_of.Kinds.r weigh.weights_of.Reads.Pre weigh.weights_of.Reads.Post
+weigh-weights-of-unique κs a x y ws vs pre h h′ = (h ∙ sym h′, refl)
 
-pub stage-verdict-of-unique : Coincide 0 stage.verdict_of.Kinds.ps stage.verdict_of.Kinds.r stage.verdict_of.Reads.Pre stage.verdict_of.Reads.Post
-stage-verdict-of-unique κs a x y ws vs pre h h′ = (h ∙ sym h′, refl)
+pub weigh-weighted-unique : Coincide 0 weigh.weighted.Kinds.ps weigh.weighted.Kinds.r weigh.weighted.Reads.Pre weigh.weighted.Reads.Post
+weigh-weighted-unique κs a x y ws vs pre h h′ = (h ∙ sym h′, refl)
+
+pub weigh-fuel-unique : Coincide 0 weigh.fuel.Kinds.ps weigh.fuel.Kinds.r weigh.fuel.Reads.Pre weigh.fuel.Reads.Post
+weigh-fuel-unique κs a x y ws vs pre h h′ = (h ∙ sym h′, refl)
+
+pub weigh-verdict-of-unique : Coincide 0 weigh.verdict_of.Kinds.ps weigh.verdict_of.Kinds.r weigh.verdict_of.Reads.Pre weigh.verdict_of.Reads.Post
+weigh-verdict-of-unique κs a x y ws vs pre h h′ = (h ∙ sym h′, refl)
 
 -- ---- part
 pub part-read-part-unique : Coincide 0 part.read_part.Kinds.ps part.read_part.Kinds.r part.read_part.Reads.Pre part.read_part.Reads.Post

@@ -13,8 +13,8 @@ use Rattle.arith.proofs.Machine.{lt-true, lt-false, le-true}
 use Rattle.reading.specs.Gas.{Gas}
 use Rattle.bag.specs.declared.BagSheet.{BagSheet}
 use Rattle.bag.specs.Sheet.{limitAt}
-use Rattle.stage.specs.declared.Verdict.the-variants.{Pass, Fail, Undecided}
-use Rattle.stage.specs.Test.{verdictOf}
+use Rattle.weigh.specs.declared.Verdict.the-variants.{Pass, Fail, Undecided}
+use Rattle.weigh.specs.Test.{verdictOf}
 use Rattle.emission.specs.declared.TestSides.{TestSides}
 use Rattle.emission.specs.declared.TestResult.{TestResult}
 use Rattle.emission.specs.declared.Answer.the-variants.{Result}

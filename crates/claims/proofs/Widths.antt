@@ -24,13 +24,14 @@ use Rattle.bag.specs.Fields.{densityRange}
 use Rattle.bag.specs.Sheet.{densityAt}
 use Rattle.bag.specs.Sound.{Tested}
 use Rattle.bag.proofs.Sound.{accepted-sound}
-use Rattle.stage.specs.declared.Weights.{Weights}
+use Rattle.weigh.specs.declared.Weights.{Weights}
 use Rattle.stage.specs.Combination.{combinationOf}
 use Rattle.stage.specs.Part.{gtr, kelvinOf, volumeOf, gOf, qOf, concentrationOf, gasVolumeOf, massOf, khOf, noxMassOf, rateOf}
-use Rattle.stage.specs.Test.{weightsOf, weightedOf}
+use Rattle.weigh.specs.Test.{weightsOf, weightedOf}
 use Rattle.stage.specs.Ranges.{largestConcentration}
 use Rattle.stage.proofs.Steps.{kelvin-least, vapour-most, divisor-least}
-use Rattle.stage.proofs.Sizes.{kh-size, weights-whole}
+use Rattle.stage.proofs.Sizes.{kh-size}
+use Rattle.weigh.proofs.Sizes.{weights-whole}
 use Rattle.part.specs.Part.{endsAt, gIn, volumeIn, gasMass, massIn, ratesOf, partOf}
 use Rattle.part.specs.Ranges.{PartRanges}
 use Rattle.part.specs.declared.Sides.{Sides}

@@ -8,7 +8,7 @@ use Rattle.refusal.specs.declared.Refusal.the-variants.{Header, Second, Vehicle
 use Rattle.refusal.specs.declared.Judged.the-variants.{Accepted, Refused}
 use Rattle.reading.specs.declared.Message.the-variants.{Ppm, Percent, OverRange, NotFitted}
 use Rattle.reading.specs.Gas.{HC, CO, NOx, CO2, gasNumber}
-use Rattle.stage.specs.declared.Verdict.the-variants.{Pass, Fail, Undecided}
+use Rattle.weigh.specs.declared.Verdict.the-variants.{Pass, Fail, Undecided}
 use Rattle.preset.specs.Preset.{petrolOf, dieselOf}
 use Rattle.outcome.specs.Outcome.{outcomeOf, chosenOf}
 use Rattle.crossing.specs.Sheet.{messageOf, verdictNumber}

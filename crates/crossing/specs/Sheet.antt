@@ -12,8 +12,8 @@ use Rattle.reading.specs.declared.Message.the-variants.{Ppm, Percent, OverRange
 use Rattle.reading.specs.declared.Bag.{Bag}
 use Rattle.bag.specs.declared.Part.{Part}
 use Rattle.bag.specs.declared.BagSheet.{BagSheet}
-use Rattle.stage.specs.declared.Verdict.{Verdict}
-use Rattle.stage.specs.declared.Verdict.the-variants.{Pass, Fail, Undecided}
+use Rattle.weigh.specs.declared.Verdict.{Verdict}
+use Rattle.weigh.specs.declared.Verdict.the-variants.{Pass, Fail, Undecided}
 use Rattle.emission.specs.declared.Verdicts.{Verdicts}
 use Rattle.emission.specs.declared.Answer.{Answer}
 use Rattle.emission.specs.declared.Answer.the-variants.{Result, Refused}

@@ -16,7 +16,7 @@ use part::Gases;
 use reading::Bag;
 use reading::Message;
 use refusal::Judged;
-use stage::Verdict;
+use weigh::Verdict;
 ghost use mathlib.Core.Path.{_≡_};
 ghost use Rattle.emission.specs.declared.Answer.the-variants.{Result};
 ghost use Rattle.crossing.specs.Sheet.{messageOf, bagOf, sheetPartOf, sheetOf, verdictNumber, verdictNumbers, withNothing, resultOut};

@@ -2,7 +2,7 @@
 use mathlib.Core.Path.{_≡_}
 use Rattle.reading.specs.Gas.{Gas}
 use Rattle.reading.proofs.Gas.{among-each}
-use Rattle.stage.specs.declared.Verdict.{Verdict}
+use Rattle.weigh.specs.declared.Verdict.{Verdict}
 use Rattle.emission.specs.Test.{verdictAt, eachVerdict}
 
 pub verdict-at : (gas : Gas) (f : Gas → Verdict) → verdictAt gas (eachVerdict f) ≡ f gas

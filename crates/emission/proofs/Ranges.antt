@@ -17,9 +17,10 @@ use Rattle.bag.specs.declared.Triple.{Triple}
 use Rattle.bag.specs.Sheet.{ofThird}
 use Rattle.bag.specs.Sound.{Tested, Ranged, Sound}
 use Rattle.bag.proofs.Sound.{apart, third-holds}
-use Rattle.stage.specs.Test.{weightsOf}
+use Rattle.weigh.specs.Test.{weightsOf}
 use Rattle.stage.specs.Ranges.{largestMass, largestNoxMass, largestRate}
-use Rattle.stage.proofs.Sizes.{rate-size, weights-whole, weighted-size}
+use Rattle.stage.proofs.Sizes.{rate-size}
+use Rattle.weigh.proofs.Sizes.{weights-whole, weighted-size}
 use Rattle.part.specs.declared.Sides.{Sides}
 use Rattle.part.specs.Part.{diluted, dryEnough, ratesOf, partOf}
 use Rattle.part.specs.Ranges.{PartRanges}

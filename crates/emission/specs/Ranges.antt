@@ -5,8 +5,8 @@ use Rattle.arith.specs.Fitting.{Sized}
 use Rattle.reading.specs.Gas.{Gas}
 use Rattle.bag.specs.declared.BagSheet.{BagSheet}
 use Rattle.bag.specs.Sound.{Tested, Ranged, RangedTriple}
-use Rattle.stage.specs.declared.Weights.{Weights}
-use Rattle.stage.specs.Ranges.{WeightedRanges}
+use Rattle.weigh.specs.declared.Weights.{Weights}
+use Rattle.weigh.specs.Ranges.{WeightedRanges}
 use Rattle.part.specs.declared.Gases.{Gases}
 use Rattle.part.specs.Part.{endsAt}
 use Rattle.part.specs.Ranges.{ReadingSizes, PartRanges, largestMassOf}

@@ -17,9 +17,9 @@ use Rattle.bag.specs.declared.Part.{Part}
 use Rattle.bag.specs.declared.Fuel.{Fuel}
 use Rattle.bag.specs.declared.Limits.{Limits}
 use Rattle.bag.specs.Sheet.{limitAt, ofThird, judgeSheet}
-use Rattle.stage.specs.declared.Verdict.{Verdict}
-use Rattle.stage.specs.declared.Weights.{Weights}
-use Rattle.stage.specs.Test.{weightsOf, weightedOf, fuelOf, verdictOf}
+use Rattle.weigh.specs.declared.Verdict.{Verdict}
+use Rattle.weigh.specs.declared.Weights.{Weights}
+use Rattle.weigh.specs.Test.{weightsOf, weightedOf, fuelOf, verdictOf}
 use Rattle.part.specs.declared.Gases.{Gases}
 use Rattle.part.specs.declared.PartResult.{PartResult}
 use Rattle.part.specs.declared.Sides.{Sides}

@@ -11,8 +11,8 @@ use part::PartResult;
 use part::Sides;
 use refusal::Judged;
 use refusal::Refusal;
-use stage::Verdict;
-use stage::Weights;
+use weigh::Verdict;
+use weigh::Weights;
 ghost use mathlib.Core.Path.{_≡_};
 ghost use mathlib.Core.List.{[], _∷_};
 ghost use Rattle.refusal.specs.declared.Refusal.the-variants.{Dilution, Humidity};
@@ -203,10 +203,10 @@ fn weighted_gases(w: Weights, first: Gases, second: Gases, third: Gases) -> Gase
     ensures { λ r. ⌜ r ≡ weightedGases w first second third ⌝ }
 {
     Gases {
-        hc: stage::weighted(w, first.hc, second.hc, third.hc),
-        co: stage::weighted(w, first.co, second.co, third.co),
-        nox: stage::weighted(w, first.nox, second.nox, third.nox),
-        co2: stage::weighted(w, first.co2, second.co2, third.co2),
+        hc: weigh::weighted(w, first.hc, second.hc, third.hc),
+        co: weigh::weighted(w, first.co, second.co, third.co),
+        nox: weigh::weighted(w, first.nox, second.nox, third.nox),
+        co2: weigh::weighted(w, first.co2, second.co2, third.co2),
     }
 }
 
@@ -215,10 +215,10 @@ fn verdicts_of(weighted: Gases, limits: Limits) -> Verdicts
     ensures { λ r. ⌜ r ≡ verdictsOf weighted limits ⌝ }
 {
     Verdicts {
-        hc: stage::verdict_of(weighted.hc, limits.hc),
-        co: stage::verdict_of(weighted.co, limits.co),
-        nox: stage::verdict_of(weighted.nox, limits.nox),
-        co2: stage::verdict_of(weighted.co2, limits.co2),
+        hc: weigh::verdict_of(weighted.hc, limits.hc),
+        co: weigh::verdict_of(weighted.co, limits.co),
+        nox: weigh::verdict_of(weighted.nox, limits.nox),
+        co2: weigh::verdict_of(weighted.co2, limits.co2),
     }
 }
 
@@ -226,7 +226,7 @@ fn fuel_in(f: Fuel, weighted: Gases) -> Ends
     requires { ⌜ (RangedFuel f) × (RateSizes weighted) ⌝ }
     ensures { λ r. ⌜ r ≡ fuelIn f weighted ⌝ }
 {
-    stage::fuel(
+    weigh::fuel(
         f.k,
         f.hc,
         f.co,
@@ -242,7 +242,7 @@ fn result_of(s: BagSheet, parts: Parts) -> TestResult
     requires { ⌜ ResultRanges s parts ⌝ }
     ensures { λ r. ⌜ r ≡ resultOf s parts ⌝ }
 {
-    let w = stage::weights_of(s.class);
+    let w = weigh::weights_of(s.class);
     let weighted = weighted_gases(w, parts.first.rate, parts.second.rate, parts.third.rate);
     TestResult {
         parts,

@@ -11,7 +11,7 @@ use print::text;
 use reading::Message;
 use reading::Worth;
 use refusal::Refusal;
-use stage::Verdict;
+use weigh::Verdict;
 
 fn gases(g: Gases) {
     text(b" HC");

@@ -1,7 +1,7 @@
 -- How large the outcome of each stage can be, from the sizes of what it is given: so a caller meets what the next stage asks. The
 -- bounds are those of specs/Ranges.antt. Assumes nothing.
-use mathlib.Core.Path.{_≡_, refl, ap}
-use Prim.Native.Nat.{ℕ, zero, suc, _+_, _-_, _*_, _≤_, _<_}
+use mathlib.Core.Path.{_≡_}
+use Prim.Native.Nat.{ℕ, _+_, _-_, _*_, _≤_, _<_}
 use native.Mathlib.Nat.{mul-le-mul-right}
 use native.Mathlib.Omega.{arith}
 use lib.IntN.{ℤ, pos, negsuc, _*ℤ_}
@@ -12,10 +12,8 @@ use Rattle.arith.specs.Fitting.{Sized}
 use Rattle.arith.proofs.Parts.{zs, mul-parts}
 use Rattle.arith.proofs.Size.{wider-size, exactly-size, scaled-size, product-size, divided-size}
 use Rattle.bag.specs.Fields.{distanceRange, densityRange}
-use Rattle.stage.specs.declared.Weights.{Weights}
 use Rattle.stage.specs.Combination.{combinationOf}
 use Rattle.stage.specs.Part.{gtr, kelvinOf, volumeOf, gOf, netOf, concentrationOf, gasVolumeOf, massOf, vapourOf, dryOf, khOf, noxMassOf, rateOf}
-use Rattle.stage.specs.Test.{weightsOf, weightedOf}
 use Rattle.stage.specs.Ranges.{UpTo, VolumeRanges, GRanges, ConcentrationRanges, KhRanges, NoxMassRanges}
 use Rattle.stage.specs.Ranges.{largestReading, largestSigned, largestG, largestVolume, largestConcentration, largestGasVolume, largestMass}
 use Rattle.stage.specs.Ranges.{largestKh, largestNoxMass}
@@ -90,23 +88,3 @@ unfolding rateOf
 rate-size distance h s =
     divided-by-size (distanceRange .least) (pos distance) (omega arith) (omega zs)
     (wider-size (omega arith) (scaled-size {m = 1000} (pos 1000) (omega arith) s))
-
--- ---- the whole test. The weights of a class are a whole
-pub weights-whole : (class : ℕ) → 1 ≤ class → class ≤ 3 → weightsOf class .first + weightsOf class .second + weightsOf class .third ≡ 100
-weights-whole zero l h = absurd (omega arith)
-weights-whole (suc zero) l h = refl
-weights-whole (suc (suc zero)) l h = refl
-weights-whole (suc (suc (suc zero))) l h = refl
-weights-whole (suc (suc (suc (suc class)))) l h = absurd (omega arith)
-
--- so the weighted ends are no larger than the rates
-pub weighted-size :
-    {m : ℕ} {first second third : Ends} (weights : Weights) → weights .first + weights .second + weights .third ≡ 100 →
-    Sized m first → Sized m second → Sized m third → Sized m (weightedOf weights first second third)
-unfolding weightedOf
-weighted-size {m} weights e s t u =
-    let f : (weights .first + weights .second + weights .third) * m ≡ 100 * m = ap (λ (n : ℕ). n * m) e in
-    divided-size 100 (omega arith)
-    (wider-size (omega arith)
-    (combination-size {j = weights .first} {k = weights .second} {l = weights .third} (weights .first) (weights .second) (weights .third)
-    (omega arith) (omega arith) (omega arith) s t u))

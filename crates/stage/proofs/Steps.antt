@@ -15,7 +15,7 @@ use Rattle.arith.proofs.Size.{sum-size, difference-size, scaled-size, product-s
 use Rattle.bag.specs.Fields.{mostPumped, barometerRange}
 use Rattle.stage.specs.Combination.{combinationOf}
 use Rattle.stage.specs.Part.{gtr, kelvinOf, netOf, vapourOf, dryOf, humidityGood}
-use Rattle.stage.specs.Ranges.{UpTo, VolumeRanges, ConcentrationRanges, HumidityRanges, KhRanges, FuelRanges, largestSigned, largestMass}
+use Rattle.stage.specs.Ranges.{UpTo, VolumeRanges, ConcentrationRanges, HumidityRanges, KhRanges, largestSigned, largestMass}
 use Rattle.stage.proofs.UpTo.{upTo-size}
 
 -- three numbers of size m, with factors up to j, k and l
@@ -83,9 +83,3 @@ module _ {humidity saturation barometer : ℕ} (r : KhRanges humidity saturation
       365030 * dryOf humidity saturation barometer
       ≤ 1352030 * dryOf humidity saturation barometer - 20434190 * vapourOf humidity saturation
   divisor-least = omega (arith, humid)
-
--- ---- fuel: k times the carbon reaches 92 % of 2^63
-pub carbon-size : {k f1 f2 f3 density : ℕ} {hc co co2 : Ends} → FuelRanges k f1 f2 f3 density hc co co2 →
-    Sized (3000 * (10 * largestMass)) (combinationOf f1 hc f2 co f3 co2)
-carbon-size {f1 = f1} {f2 = f2} {f3 = f3} r =
-    combination-size f1 f2 f3 (r .f1-most) (r .f2-most) (r .f3-most) (r .hc-size) (r .co-size) (r .co2-size)

@@ -1,4 +1,3 @@
 pub mod Combination
 pub mod Part
-pub mod Test
 pub mod Ranges

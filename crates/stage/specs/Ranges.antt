@@ -8,7 +8,6 @@ use Rattle.arith.specs.declared.Ends.{Ends}
 use Rattle.arith.specs.Fitting.{Sized}
 use Rattle.bag.specs.Fields.{mostPumped, barometerRange, depressionRange, coldest, hottest, humidityRange, saturationRange, distanceRange, densityRange}
 use Rattle.bag.specs.Fields.{dRange, wRange, kRange, factorRange, fuelDensityRange}
-use Rattle.stage.specs.declared.Weights.{Weights}
 use Rattle.stage.specs.Part.{qOf, dilutionGood, humidityGood}
 
 -- ends in order, from 0 to m
@@ -106,20 +105,3 @@ pub record NoxMassRanges (mass kh : Ends) : Type 0 where
 pub record RateRanges (mass : Ends) (distance : ℕ) : Type 0 where
   pub mass-size : Sized (4 * largestMass) mass
   pub distance-least : distanceRange .least ≤ distance
-
-pub record WeightedRanges (weights : Weights) (first second third : Ends) : Type 0 where
-  pub whole : weights .first + weights .second + weights .third ≡ 100
-  pub first-size : Sized largestRate first
-  pub second-size : Sized largestRate second
-  pub third-size : Sized largestRate third
-
-pub record FuelRanges (k f1 f2 f3 density : ℕ) (hc co co2 : Ends) : Type 0 where
-  pub k-most : k ≤ kRange .most
-  pub f1-most : f1 ≤ factorRange .most
-  pub f2-most : f2 ≤ factorRange .most
-  pub f3-most : f3 ≤ factorRange .most
-  pub light : fuelDensityRange .least ≤ density
-  pub heavy : density ≤ fuelDensityRange .most
-  pub hc-size : Sized (10 * largestMass) hc
-  pub co-size : Sized (10 * largestMass) co
-  pub co2-size : Sized (10 * largestMass) co2

@@ -1,5 +1,5 @@
-// The stages of the emission sheet (01, Bag sheet and figures): from a part's numbers and its bags' ends to its rates, and from the parts'
-// rates to the test's result. Each is a definition of specs/ and a function that gives it, from ends to ends.
+// The stages of a part of a test (01, Bag sheet and figures): from its numbers and its bags' ends to its rates. Each is a definition of specs/ and a
+// function that gives it, from ends to ends.
 use arith::Ends;
 use arith::divided;
 use arith::exactly;
@@ -9,16 +9,15 @@ use arith::whole;
 ghost use mathlib.Core.Path.{_≡_};
 ghost use Prim.Native.Nat.{_<_, _≤_, _^_};
 ghost use lib.IntN.{pos};
-ghost use Rattle.bag.specs.Fields.{mostLimit, dRange};
+ghost use Rattle.bag.specs.Fields.{dRange};
 ghost use Rattle.stage.specs.Part.{gtr, kelvinOf, volumeOf, gOf, qOf, dilutionGood, concentrationOf, gasVolumeOf, massOf};
 ghost use Rattle.stage.specs.Part.{vapourOf, dryOf, humidityGood, khOf, noxMassOf, rateOf};
 ghost use Rattle.stage.specs.Combination.{combinationOf};
-ghost use Rattle.stage.specs.Test.{weightsOf, weightedOf, fuelOf, verdictOf};
 ghost use Rattle.stage.specs.Ranges.{CombinationRanges, VolumeRanges, GRanges, ConcentrationRanges, GasVolumeRanges, MassRanges};
-ghost use Rattle.stage.specs.Ranges.{HumidityRanges, KhRanges, NoxMassRanges, RateRanges, WeightedRanges, FuelRanges};
+ghost use Rattle.stage.specs.Ranges.{HumidityRanges, KhRanges, NoxMassRanges, RateRanges};
 
 // A product of the sheet's numbers, as a signed one.
-fn signed(n: u64) -> i64
+pub fn signed(n: u64) -> i64
     requires { ⌜ n < 2 ^ 63 ⌝ }
     ensures { λ r. ⌜ r ≡ pos n ⌝ }
 {
@@ -26,7 +25,7 @@ fn signed(n: u64) -> i64
 }
 
 // Three numbers, each with its own factor.
-fn combination(j: u32, a: Ends, k: u32, b: Ends, l: u32, c: Ends) -> Ends
+pub fn combination(j: u32, a: Ends, k: u32, b: Ends, l: u32, c: Ends) -> Ends
     requires { ⌜ CombinationRanges j a k b l c ⌝ }
     ensures { λ r. ⌜ r ≡ combinationOf j a k b l c ⌝ }
 {
@@ -156,86 +155,4 @@ pub fn rate(mass: Ends, distance: u32) -> Ends
     ensures { λ r. ⌜ r ≡ rateOf mass distance ⌝ }
 {
     divided(scaled(1000, mass), whole(distance))
-}
-
-// The weights of a test's parts, in percent. A class of two parts has 0 for the third.
-pub struct Weights {
-    pub first: u32,
-    pub second: u32,
-    pub third: u32,
-}
-
-// By class, from class 1.
-const WEIGHTS: [Weights; 3] = [
-    Weights {
-        first: 50,
-        second: 50,
-        third: 0,
-    },
-    Weights {
-        first: 30,
-        second: 70,
-        third: 0,
-    },
-    Weights {
-        first: 25,
-        second: 50,
-        third: 25,
-    },
-];
-
-pub fn weights_of(class: u32) -> Weights
-    requires { ⌜ (1 ≤ class) × (class ≤ 3) ⌝ }
-    ensures { λ r. ⌜ r ≡ weightsOf class ⌝ }
-{
-    let row = (class - 1) as usize;
-    WEIGHTS[row]
-}
-
-// A gas over the whole test, in micrograms/km, from its rates in the parts.
-pub fn weighted(weights: Weights, first: Ends, second: Ends, third: Ends) -> Ends
-    requires { ⌜ WeightedRanges weights first second third ⌝ }
-    ensures { λ r. ⌜ r ≡ weightedOf weights first second third ⌝ }
-{
-    divided(
-        combination(
-            weights.first,
-            first,
-            weights.second,
-            second,
-            weights.third,
-            third,
-        ),
-        100,
-    )
-}
-
-// In microlitres per 100 km, from the weighted gases that hold carbon.
-pub fn fuel(k: u32, f1: u32, f2: u32, f3: u32, density: u32, hc: Ends, co: Ends, co2: Ends) -> Ends
-    requires { ⌜ FuelRanges k f1 f2 f3 density hc co co2 ⌝ }
-    ensures { λ r. ⌜ r ≡ fuelOf k f1 f2 f3 density hc co co2 ⌝ }
-{
-    let carbon = combination(f1, hc, f2, co, f3, co2);
-    divided(scaled(whole(k), carbon), whole(10000 * density))
-}
-
-pub enum Verdict {
-    Pass,
-    Fail,
-    Undecided,
-}
-
-// How a weighted gas stands to its limit. The limit comes as the sheet has it, unsigned and up to 10^12, and is made signed here once.
-pub fn verdict_of(rate: Ends, limit: u64) -> Verdict
-    requires { ⌜ limit ≤ mostLimit ⌝ }
-    ensures { λ r. ⌜ r ≡ verdictOf rate limit ⌝ }
-{
-    let most = signed(limit);
-    if rate.upper <= most {
-        return Verdict::Pass;
-    }
-    if most < rate.lower {
-        return Verdict::Fail;
-    }
-    Verdict::Undecided
 }

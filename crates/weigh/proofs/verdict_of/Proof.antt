@@ -1,4 +1,4 @@
--- `stage::verdict_of` meets its contract. Assumes nothing.
+-- `weigh::verdict_of` meets its contract. Assumes nothing.
 use mathlib.Core.Path.{_≡_}
 use mathlib.Core.Bool.{false}
 use borrow.Author.Needs.{needs}
@@ -7,9 +7,9 @@ use lib.Signed.{leZ}
 use mir.Syntax.{w64}
 use mir.Val.{toZ, ofZ}
 use Rattle.arith.proofs.Machine.{back, handed}
-use Rattle.stage.specs.Test.{verdictOf}
-use Rattle.stage.proofs.verdict_of.Statement.{statement}
-use Rattle.stage.proofs.verdict_of.Tie as tie
+use Rattle.weigh.specs.Test.{verdictOf}
+use Rattle.weigh.proofs.verdict_of.Statement.{statement}
+use Rattle.weigh.proofs.verdict_of.Tie as tie
 
 limit-is : (c : tie.After-signed) → toZ w64 (ofZ w64 (c .signed .result)) ≡ pos (c .before .args .limit)
 limit-is c = handed (c .signed .result) (c .signed .ok) (c .signed .ensures)

@@ -7,10 +7,10 @@ use lib.IntN.{pos}
 use lib.Signed.{leZ, ltZ}
 use Rattle.arith.specs.declared.Ends.{Ends}
 use Rattle.arith.specs.Stages.{scaledBy, dividedBy}
-use Rattle.stage.specs.declared.Weights.{Weights}
-use Rattle.stage.specs.declared.Verdict.{Verdict}
-use Rattle.stage.specs.declared.Verdict.the-variants.{Pass, Fail, Undecided}
+use Rattle.weigh.specs.declared.Weights.{Weights}
+use Rattle.weigh.specs.declared.Verdict.{Verdict}
+use Rattle.weigh.specs.declared.Verdict.the-variants.{Pass, Fail, Undecided}
 use Rattle.stage.specs.Combination.{combinationOf}
 
 -- ---- weights, in percent
 abbrev pub percent : ℕ → ℕ → ℕ → Weights

@@ -1,8 +1,8 @@
--- `stage::weighted` meets its contract. Assumes nothing.
+-- `weigh::weighted` meets its contract. Assumes nothing.
 use borrow.Author.Needs.{needs}
-use Rattle.stage.specs.Test.{weightedOf}
-use Rattle.stage.proofs.weighted.Statement.{statement}
-use Rattle.stage.proofs.weighted.Tie as tie
+use Rattle.weigh.specs.Test.{weightedOf}
+use Rattle.weigh.proofs.weighted.Statement.{statement}
+use Rattle.weigh.proofs.weighted.Tie as tie
 
 returns : tie.Need-returns
 unfolding weightedOf

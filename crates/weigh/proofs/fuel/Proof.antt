@@ -1,4 +1,4 @@
--- `stage::fuel` meets its contract. Assumes nothing.
+-- `weigh::fuel` meets its contract. Assumes nothing.
 use native.Mathlib.Omega.{arith}
 use mathlib.Core.Path.{_≡_}
 use Prim.Native.Nat.{_*_}
@@ -9,10 +9,10 @@ use mir.Val.{toZ, ofZ}
 use Rattle.arith.proofs.Parts.{zs}
 use Rattle.arith.proofs.Machine.{handed}
 use Rattle.arith.proofs.Size.{scaled-fits}
-use Rattle.stage.specs.Test.{fuelOf}
-use Rattle.stage.proofs.Steps.{carbon-size}
-use Rattle.stage.proofs.fuel.Statement.{statement}
-use Rattle.stage.proofs.fuel.Tie as tie
+use Rattle.weigh.specs.Test.{fuelOf}
+use Rattle.weigh.proofs.Sizes.{carbon-size}
+use Rattle.weigh.proofs.fuel.Statement.{statement}
+use Rattle.weigh.proofs.fuel.Tie as tie
 
 k-is : (c : tie.After-whole) → toZ w64 (ofZ w64 (c .whole .result)) ≡ pos (c .before .before .args .k)
 k-is c = handed (c .whole .result) (c .whole .ok) (c .whole .ensures)
