@@ -3,7 +3,7 @@
 use mathlib.Core.Path.{_≡_, sym, ap, subst}
 use mathlib.Core.Bool.{Bool, true, false, cond}
 use mathlib.Core.List.{List}
-use Prim.Native.Nat.{ℕ, suc, _+_, _-_, _*_, _≤_}
+use Prim.Native.Nat.{ℕ, suc, _-_, _*_, _≤_}
 use native.Mathlib.Omega.{arith}
 use lib.ListN.{length}
 use Rattle.trace.specs.House.{flagsAt, speedAt, stop, acceleration}
@@ -18,15 +18,17 @@ use Rattle.phase.specs.Phase.{firstRow, clutched}
 use Rattle.runs.specs.Corrected.{corrected}
 use Rattle.gear.specs.Own.{ownSecond, ownAt}
 use Rattle.gear.specs.Sheet.{rowOf}
-use Rattle.walk.proofs.Stores.{not-stored}
-use Rattle.claims.proofs.Rows.{clutching, uncorrected-length, row-length}
+use Rattle.claims.proofs.Rows.{row-length}
 use Rattle.row.proofs.Passes.{cap-length, pass-length}
-use Rattle.claims.proofs.Seconds.{leastBy, Between, Second, first-second, cap-second, pass-second}
+use Rattle.row.proofs.Ranges.{FromTo, leastBy}
+use Rattle.phase.proofs.Stops.{first-length}
+use Rattle.phase.proofs.Clutch.{clutched-gear}
+use Rattle.claims.proofs.Seconds.{Second, first-second, cap-second, pass-second}
 use Rattle.claims.proofs.Smoothing.{Fit, pass-near, smoothed-fit}
 
 -- ---- the gears that the shift speeds give
 module _ (s : Shift) (enough : 3 ≤ s .gears) where
-  own-range : (accelerates : Bool) (speed : ℕ) → Between 1 (s .gears) (ownGear s accelerates speed .gear)
+  own-range : (accelerates : Bool) (speed : ℕ) → FromTo 1 (s .gears) (ownGear s accelerates speed .gear)
   unfolding ownGear tallyOf
   own-range true speed =
       let few = count-most (aboveAt (s .first) (s .higher) (s .ndv) speed) (s .gears - 1) in
@@ -35,12 +37,12 @@ module _ (s : Shift) (enough : 3 ≤ s .gears) where
       let few = count-most (aboveAt (s .first) (s .higher) (s .ndv) speed) (s .gears - 2) in
       record { low = omega arith; high = omega arith }
 
-  second-range : (flags speed : ℕ) → stop flags ≡ false → Between 1 (s .gears) (ownSecond s flags speed .gear)
+  second-range : (flags speed : ℕ) → stop flags ≡ false → FromTo 1 (s .gears) (ownSecond s flags speed .gear)
   unfolding ownSecond
   second-range flags speed e =
       let own = ownGear s (acceleration flags) speed in
       let is : ownSecond s flags speed ≡ own = ap (λ (b : Bool). cond b (record { gear = 0; close = false }) own) e in
-      subst (λ (o : Own). Between 1 (s .gears) (o .gear)) (sym is) (own-range (acceleration flags) speed)
+      subst (λ (o : Own). FromTo 1 (s .gears) (o .gear)) (sym is) (own-range (acceleration flags) speed)
 
   -- ---- through the corrections
   module _ (trace : List ℕ) (n : ℕ) where
@@ -51,7 +53,7 @@ module _ (s : Shift) (enough : 3 ≤ s .gears) where
         let row₂ = passBy NoFirst trace row₁ n in
         let row₃ = passBy NoShift trace row₂ n in
         let row₄ = passBy NoDrop trace row₃ n in
-        let long₀ : 2 * n ≤ length row₀ = omega (arith, uncorrected-length s trace n) in
+        let long₀ : 2 * n ≤ length row₀ = omega (arith, first-length (λ k. ownAt s trace k .gear) trace n) in
         let long₁ : 2 * n ≤ length row₁ = omega (arith, cap-length trace row₀ n) in
         let long₂ : 2 * n ≤ length row₂ = omega (arith, pass-length NoFirst trace row₁ n) in
         let long₃ : 2 * n ≤ length row₃ = omega (arith, pass-length NoShift trace row₂ n) in
@@ -69,16 +71,11 @@ module _ (s : Shift) (enough : 3 ≤ s .gears) where
           near = pass-near trace row₄ n long₄;
         })
 
-    -- the clutch changes no gear
-    clutched-gear : (row : List ℕ) (k : ℕ) → gearAt (clutched trace row n) k ≡ gearAt row k
-    unfolding clutched
-    clutched-gear row k = not-stored (clutching trace) (2 * k) (λ j (e : 2 * k ≡ 2 * j + 1). omega arith) row n
-
     pub row-fit : Fit trace n (s .gears) (rowOf s trace n)
     unfolding rowOf
     row-fit =
         let row = corrected trace (firstRow (λ k. ownAt s trace k .gear) trace n) n in
-        let same : (k : ℕ) → gearAt row k ≡ gearAt (clutched trace row n) k = λ k. sym (clutched-gear row k) in
+        let same : (k : ℕ) → gearAt row k ≡ gearAt (clutched trace row n) k = λ k. sym (clutched-gear trace row n k) in
         let fit = corrected-fit in
         record {
           long = omega (arith, row-length s trace n);

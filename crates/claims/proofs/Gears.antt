@@ -15,10 +15,10 @@ use Rattle.shift.specs.Speeds.{shiftOf}
 use Rattle.row.specs.Row.{gearAt}
 use Rattle.phase.specs.Phase.{stopEnd, stopGear}
 use Rattle.gear.specs.Sheet.{gearAnswer}
-use Rattle.claims.specs.Rows.{finishedRow, Near}
+use Rattle.claims.specs.Rows.{finishedRow, AtMostOneStep}
 use Rattle.claims.proofs.Rows.{row-held, accepted-sound}
 use Rattle.phase.proofs.Stops.{last-gear}
-use Rattle.claims.proofs.Seconds.{leastBy, least-range}
+use Rattle.row.proofs.Ranges.{leastBy, least-range}
 use Rattle.claims.proofs.Smoothing.{Fit}
 use Rattle.claims.proofs.Finished.{row-fit}
 
@@ -62,7 +62,7 @@ module _ (trace : List ℕ) (v : VehicleSheet) (buffer : List ℕ) (start : ℕ)
       go true e = refl
       go false e =
           let low = held .second k l .drives e .low in
-          absurd (let z : ⊥ = omega (arith, low, least-range (flagsAt trace k) .0) in z)
+          absurd (let z : ⊥ = omega (arith, low, least-range (flagsAt trace k) .low) in z)
 
   -- the mark "no 1. gear" holds to the end, past corrections 3 to 6 too
   pub no-first-kept : (k : ℕ) → k < countOf trace → stopAt trace k ≡ false → noFirstAt trace k ≡ true
@@ -73,7 +73,7 @@ module _ (trace : List ℕ) (v : VehicleSheet) (buffer : List ℕ) (start : ℕ)
 
   -- correction 5's bound holds past correction 6 too, and after a stop; a stop itself may come from any gear
   pub one-step : (k : ℕ) → k + 1 < countOf trace → stopAt trace (k + 1) ≡ false
-      → Near (gearAt (finishedRow trace v buffer start) k) (gearAt (finishedRow trace v buffer start) (k + 1))
+      → AtMostOneStep (gearAt (finishedRow trace v buffer start) k) (gearAt (finishedRow trace v buffer start) (k + 1))
   one-step k l e =
-      subst (λ (j : ℕ). Near (gearAt (finishedRow trace v buffer start) k) (gearAt (finishedRow trace v buffer start) j)) (sym (add-one k))
+      subst (λ (j : ℕ). AtMostOneStep (gearAt (finishedRow trace v buffer start) k) (gearAt (finishedRow trace v buffer start) j)) (sym (add-one k))
       (held .near k (omega arith) (ap (stopAt trace) (sym (add-one k)) ∙ e))

@@ -1,75 +1,49 @@
 -- What an accepted gear sheet leaves in the buffer: two bytes a second from the start on, every other byte as it was, and the clutch of each second
 -- as its phase and speed ask. A refusal leaves the whole buffer. Assumes nothing.
-use mathlib.Core.Path.{_≡_, refl, sym, ap, _∙_}
-use mathlib.Core.Bool.{Bool, true, false, cond}
+use mathlib.Core.Path.{_≡_, sym, ap, _∙_}
 use mathlib.Core.List.{List, _++_}
 use Prim.Native.Nat.{ℕ, _+_, _*_, _≤_, _<_}
 use native.Mathlib.Omega.{arith}
 use lib.ListN.{length, take, drop, length-append, length-drop}
 use lib.Seq.{length-take-le, take-at, drop-at, drop-drop}
-use lib.Dec.{ltb}
 use Rattle.refusal.specs.declared.Judged.{Judged}
 use Rattle.refusal.specs.declared.Judged.the-variants.{Accepted, Refused}
 use Rattle.refusal.specs.declared.Refusal.{Refusal}
 use Rattle.refusal.proofs.Judging.{then-holds}
-use Rattle.trace.specs.House.{countOf, flagsAt, speedAt, stop}
+use Rattle.trace.specs.House.{countOf, flagsAt, speedAt}
 use Rattle.vehicle.specs.declared.VehicleSheet.{VehicleSheet}
 use Rattle.shift.specs.declared.Shift.{Shift}
 use Rattle.shift.specs.Speeds.{shiftOf}
-use Rattle.walk.proofs.Walk.{pairs-length}
 use Rattle.row.specs.Row.{clutchAt}
-use Rattle.phase.specs.Phase.{firstGear, firstRow, clutchOf, clutchStep, clutched}
+use Rattle.phase.specs.Phase.{firstRow, clutchOf}
+use Rattle.phase.proofs.Stops.{first-length}
+use Rattle.phase.proofs.Clutch.{clutched-length, clutched-at, clutch-of-most}
 use Rattle.runs.specs.Corrected.{corrected}
 use Rattle.runs.proofs.Frame.{corrected-length}
 use Rattle.gear.specs.Own.{ownAt, judgeClose}
 use Rattle.gear.specs.Sheet.{judgeSheet, gearAnswer, ifAccepted, withRow, rowOf, gearBuffer}
 use Rattle.gear.proofs.Sheet.{Sound, sheet-sound, buffer-refused}
 use Rattle.claims.specs.Rows.{finishedRow}
-use Rattle.walk.proofs.Stores.{Storing, stores-length, stored}
 
 -- ---- the row by itself
--- the clutch is stored behind the gear of each second
-abbrev pub clutching : List ℕ → Storing (List ℕ)
-clutching trace = record {
-  bytes = λ row. row;
-  step = clutchStep trace;
-  place = λ k. 2 * k + 1;
-  new = λ row k. clutchOf (flagsAt trace k) (speedAt trace k);
-  stores = λ row k. refl;
-  apart = λ j k e. omega arith;
-}
-
 module _ (s : Shift) (trace : List ℕ) (n : ℕ) where
-  pub uncorrected-length : length (firstRow (λ k. ownAt s trace k .gear) trace n) ≡ 2 * n
-  unfolding firstRow
-  uncorrected-length = pairs-length (firstGear (λ k. ownAt s trace k .gear) trace n) (λ k. 0) n
+  before : List ℕ
+  before = corrected trace (firstRow (λ k. ownAt s trace k .gear) trace n) n
 
-  beforeClutch : List ℕ
-  beforeClutch = corrected trace (firstRow (λ k. ownAt s trace k .gear) trace n) n
-
-  before-length : length beforeClutch ≡ 2 * n
-  unfolding beforeClutch
-  before-length = corrected-length trace (firstRow (λ k. ownAt s trace k .gear) trace n) n ∙ uncorrected-length
+  before-length : length before ≡ 2 * n
+  unfolding before
+  before-length =
+      let own : ℕ → ℕ = λ k. ownAt s trace k .gear in
+      corrected-length trace (firstRow own trace n) n ∙ first-length own trace n
 
   -- two bytes a second
   pub row-length : length (rowOf s trace n) ≡ 2 * n
-  unfolding rowOf clutched beforeClutch
-  row-length = stores-length (clutching trace) beforeClutch n ∙ before-length
+  unfolding rowOf before
+  row-length = clutched-length trace before n ∙ before-length
 
   row-clutch : (k : ℕ) → k < n → clutchAt (rowOf s trace n) k ≡ clutchOf (flagsAt trace k) (speedAt trace k)
-  unfolding rowOf clutched beforeClutch
-  row-clutch k l =
-      let long : length beforeClutch ≡ 2 * n = before-length in
-      stored (clutching trace) beforeClutch n k l (omega (arith, long))
-
-bit : (b c : Bool) → cond b 1 (cond c 1 0) ≤ 1
-bit true c = omega arith
-bit false true = omega arith
-bit false false = omega arith
-
-clutch-of-bit : (flags speed : ℕ) → clutchOf flags speed ≤ 1
-unfolding clutchOf
-clutch-of-bit flags speed = bit (stop flags) (ltb speed 100)
+  unfolding rowOf before
+  row-clutch k l = let long = before-length in clutched-at trace before n k l (omega arith)
 
 -- ---- in the buffer
 module _ (trace : List ℕ) (v : VehicleSheet) (buffer : List ℕ) (start : ℕ) where
@@ -128,4 +102,4 @@ module _ (trace : List ℕ) (v : VehicleSheet) (buffer : List ℕ) (start : ℕ)
 
     -- in or out
     pub clutch-bit : (k : ℕ) → k < countOf trace → clutchAt (finishedRow trace v buffer start) k ≤ 1
-    clutch-bit k l = omega (arith, clutch-is k l, clutch-of-bit (flagsAt trace k) (speedAt trace k))
+    clutch-bit k l = omega (arith, clutch-is k l, clutch-of-most (flagsAt trace k) (speedAt trace k))

@@ -1,86 +1,42 @@
 -- What correction 5 gives every two neighbours, and that correction 6 keeps it, with what corrections 1 to 5 keep of every second: a run that takes the
 -- gear beside it takes one that its seconds allow, and its ends then stand beside that same gear. Assumes nothing.
 use mathlib.Core.Path.{_≡_, refl, sym, ap, subst, _∙_}
-use mathlib.Core.Bool.{Bool, true, false, not, cond, _&&_, false≢true}
+use mathlib.Core.Bool.{Bool, true, false, cond, false≢true}
 use mathlib.Core.List.{List}
 use Prim.Native.Nat.{ℕ, zero, suc, _+_, _-_, _*_, _≤_, _<_}
 use native.Mathlib.Decide.{decLt}
 use native.Mathlib.Omega.{arith}
-use borrow.Author.Tests.{leb-false, eqb-true, eqb-false, eq-eqb, not-true}
-use lib.Dec.{eqb, leb, ltb}
+use lib.Dec.{ltb}
 use lib.ListN.{length}
-use Rattle.refusal.proofs.Ranges.{both}
-use Rattle.walk.specs.Walk.{scan}
-use Rattle.walk.proofs.Walk.{scan-all}
-use Rattle.walk.proofs.Ends.{scan-before}
 use Rattle.trace.specs.House.{flagsAt, stopAt, noFirstAt}
 use Rattle.row.specs.declared.Rule.the-variants.{OneStep}
-use Rattle.row.specs.Row.{gearAt, setGear}
-use Rattle.row.specs.Corrections.{byRule, ruled, passBy}
-use Rattle.runs.specs.Runs.{goesOn, endAt, hasNoFirst, filled, takes, runJudged, rowAfter, nextAfter, smooth, smoothed}
+use Rattle.row.specs.Row.{gearAt}
+use Rattle.row.specs.Corrections.{byRule, passBy}
+use Rattle.runs.specs.Runs.{endAt, filled, takes, runJudged, rowAfter, nextAfter, smooth, smoothed}
 use Rattle.runs.proofs.Fuel.{end-gt}
 use Rattle.runs.proofs.Fills.{fill-length, fill-in, fill-before, fill-behind}
-use Rattle.claims.specs.Rows.{Near}
+use Rattle.runs.proofs.Taken.{run-drives, Taken, taken}
+use Rattle.claims.specs.Rows.{AtMostOneStep}
 use Rattle.row.proofs.Passes.{pass-next}
-use Rattle.claims.proofs.Seconds.{leastBy, least-range, Second}
+use Rattle.row.proofs.Ranges.{leastBy, least-range, ruled-drive}
+use Rattle.claims.proofs.Seconds.{Second}
 
 -- a row of n seconds, each with a gear that it allows, and near the one before it outside stops
 pub record Fit (trace : List ℕ) (n most : ℕ) (row : List ℕ) : Type 0 where
   pub long : 2 * n ≤ length row
   pub second : (k : ℕ) → k < n → Second trace n most (leastBy (flagsAt trace k)) k (gearAt row k)
-  pub near : (k : ℕ) → suc k < n → stopAt trace (suc k) ≡ false → Near (gearAt row k) (gearAt row (suc k))
+  pub near : (k : ℕ) → suc k < n → stopAt trace (suc k) ≡ false → AtMostOneStep (gearAt row k) (gearAt row (suc k))
 
 -- ---- correction 5
 pub pass-near : (trace row : List ℕ) (n : ℕ) → 2 * n ≤ length row → (k : ℕ) → suc k < n → stopAt trace (suc k) ≡ false
-    → Near (gearAt (passBy OneStep trace row n) k) (gearAt (passBy OneStep trace row n) (suc k))
-unfolding ruled
+    → AtMostOneStep (gearAt (passBy OneStep trace row n) k) (gearAt (passBy OneStep trace row n) (suc k))
 pass-near trace row n room k l drive =
     let before = gearAt (passBy OneStep trace row n) k in
     let own = gearAt row (suc k) in
     let new = byRule OneStep false (flagsAt trace k) (flagsAt trace (suc k)) before own in
-    let is : gearAt (passBy OneStep trace row n) (suc k) ≡ new = pass-next OneStep trace row n room k l ∙ ap (λ (b : Bool). cond b own new) drive in
-    subst (Near before) (sym is) (record { up = omega arith; down = omega arith })
-
--- ---- the seconds of a run
-cond-false : (b x : Bool) → cond b false x ≡ true → (b ≡ false) × (x ≡ true)
-cond-false true x e = absurd (false≢true e)
-cond-false false x e = (refl, e)
-
--- what a run has that takes the gear beside it
-record Taken (trace row : List ℕ) (n start end : ℕ) : Type 0 where
-  inside : (0 < start) × (end < n)
-  beside : stopAt trace end ≡ false
-  same : gearAt row (start - 1) ≡ gearAt row end
-  allowed : gearAt row end ≡ 1 → (j : ℕ) → j < end - start → noFirstAt trace (start + j) ≡ false
-
-taken : (trace row : List ℕ) (n start end : ℕ) → takes trace row n start end ≡ true → Taken trace row n start end
-unfolding takes
-taken trace row n start end e =
-    let calm = not (stopAt trace (start - 1)) in
-    let free = not (stopAt trace end) in
-    let short = leb (end - start) 4 in
-    let equal = eqb (gearAt row (start - 1)) (gearAt row end) in
-    let none = eqb (gearAt row end) 1 && hasNoFirst trace start (end - start) in
-    let past = cond-false (eqb start 0) _ e in
-    let more = cond-false (leb n end) (calm && free && short && equal && not none) (past .1) in
-    let five = both (calm && free && short && equal) (not none) (more .1) in
-    let four = both (calm && free && short) equal (five .0) in
-    let three = both (calm && free) short (four .0) in
-    let some : start ≡ 0 → ⊥ = eqb-false start 0 (past .0) in
-    let room : end < n = leb-false n end (more .0) in
-    record {
-      inside = (omega arith, room);
-      beside = not-true (stopAt trace end) (both calm free (three .0) .1);
-      same = eqb-true (gearAt row (start - 1)) (gearAt row end) (four .1);
-      allowed = λ one j l.
-          not-true (noFirstAt trace (start + j))
-          (scan-all (λ k. not (noFirstAt trace k)) (λ k. true) (λ k. false) false (λ k f. false≢true (sym f)) start (end - start)
-          (unmarked (eqb (gearAt row end) 1) (hasNoFirst trace start (end - start)) (eq-eqb (gearAt row end) 1 one) (not-true none (five .1))) j l);
-    }
-  where
-    unmarked : (a b : Bool) → a ≡ true → a && b ≡ false → b ≡ false
-    unmarked true b t f = f
-    unmarked false b t f = absurd (false≢true t)
+    let is : gearAt (passBy OneStep trace row n) (suc k) ≡ new =
+    pass-next OneStep trace row n room k l ∙ ruled-drive OneStep false (flagsAt trace k) (flagsAt trace (suc k)) before own drive in
+    subst (AtMostOneStep before) (sym is) (record { up = omega arith; down = omega arith })
 
 -- ---- correction 6
 -- a run that took the gear beside it
@@ -127,7 +83,7 @@ module _ (trace row : List ℕ) (n most start end : ℕ) (fit : Fit trace n most
   run-second : (k : ℕ) → start ≤ k → k < end → Second trace n most (leastBy (flagsAt trace k)) k (gearAt row end)
   run-second k h l =
       let there = fit .second end (t .inside .1) .drives (t .beside) in
-      let least = least-range (flagsAt trace end) in
+      let least = least-range (flagsAt trace end) .low in
       record {
         drives = λ e. record { low = allowed-low k h l (omega arith) (noFirstAt trace k) refl; high = there .high };
         halts = λ e. absurd (false≢true (sym (drives k h l) ∙ e));
@@ -140,7 +96,7 @@ module _ (trace row : List ℕ) (n most start end : ℕ) (fit : Fit trace n most
   after-second k l (no right) (no above) =
       subst (Second trace n most (leastBy (flagsAt trace k)) k) (sym (behind-run k (omega arith))) (fit .second k l)
 
-  after-near : (k : ℕ) → suc k < n → stopAt trace (suc k) ≡ false → Dec (suc k < start) → Dec (end < suc k) → Near (gearAt after k) (gearAt after (suc k))
+  after-near : (k : ℕ) → suc k < n → stopAt trace (suc k) ≡ false → Dec (suc k < start) → Dec (end < suc k) → AtMostOneStep (gearAt after k) (gearAt after (suc k))
   after-near k l e (yes left) d =
       let near = fit .near k l e in
       let here = before-run k (omega arith) in
@@ -165,19 +121,6 @@ module _ (trace row : List ℕ) (n most start end : ℕ) (fit : Fit trace n most
   }
 
 module _ (trace : List ℕ) (n most : ℕ) where
-  -- a run holds no stop second
-  run-drives : (row : List ℕ) (start : ℕ) → stopAt trace start ≡ false → (k : ℕ) → start ≤ k → k < endAt trace row n start → stopAt trace k ≡ false
-  run-drives row start drive k h l = go (decLt start k)
-    where
-      go : Dec (start < k) → stopAt trace k ≡ false
-      go (yes past) =
-          not-true (stopAt trace k)
-          (both (not (stopAt trace k)) (eqb (gearAt row k) (gearAt row start))
-          (scan-before (goesOn trace row (gearAt row start)) (start + 1) (n - (start + 1)) k (omega arith) l) .0)
-      go (no here) =
-          let same : k ≡ start = omega arith in
-          ap (stopAt trace) same ∙ drive
-
   cond-fit : (b : Bool) (x y : List ℕ) → Fit trace n most x → Fit trace n most y → Fit trace n most (cond b x y)
   cond-fit true x y p q = p
   cond-fit false x y p q = q
@@ -195,7 +138,7 @@ module _ (trace : List ℕ) (n most : ℕ) where
       go true c e f = fit
       go false false e f = fit
       go false true e f =
-          after-fit trace row n most start end fit (end-gt trace n row start start (omega arith)) (run-drives row start e) (taken trace row n start end f)
+          after-fit trace row n most start end fit (end-gt trace n row start start (omega arith)) (run-drives trace row n start e) (taken trace row n start end f)
 
   smooth-fit : (row : List ℕ) (start fuel : ℕ) → Fit trace n most row → Fit trace n most (smooth trace n row start fuel)
   unfolding smooth

@@ -1,10 +1,11 @@
 -- The row depends on the gears outside stop by their values alone, so the gears that were put into a list give the row of the sheet.
 -- Assumes nothing.
-use mathlib.Core.Path.{_≡_, ap}
+use mathlib.Core.Path.{_≡_, refl, ap}
 use mathlib.Core.List.{List}
 use Prim.Native.Nat.{ℕ, _-_, _≤_, _<_}
 use lib.ListN.{length, getD}
-use Rattle.walk.proofs.Walk.{pairs-same, put-at}
+use Rattle.walk.proofs.Pairs.{pairs-both}
+use Rattle.walk.proofs.Stores.{put-at}
 use Rattle.trace.specs.House.{flagsAt}
 use Rattle.shift.specs.declared.Shift.{Shift}
 use Rattle.phase.specs.Phase.{stopEnd, gearBy, firstGear, firstRow, clutched}
@@ -15,7 +16,7 @@ use Rattle.gear.specs.Sheet.{rowFrom, rowOf}
 first-same : (f g : ℕ → ℕ) (trace : List ℕ) (n : ℕ) → ((k : ℕ) → k < n → f k ≡ g k) → firstRow f trace n ≡ firstRow g trace n
 unfolding firstRow firstGear
 first-same f g trace n same =
-    pairs-same _ _ (λ k. 0) n (λ k l. ap (λ (own : ℕ). gearBy (flagsAt trace k) own (stopEnd trace n k - k)) (same k l))
+    pairs-both _ _ (λ k. 0) (λ k. 0) n (λ k l. ap (λ (own : ℕ). gearBy (flagsAt trace k) own (stopEnd trace n k - k)) (same k l)) (λ k l. refl)
 
 pub row-of-own : (s : Shift) (trace own : List ℕ) (n : ℕ) → n ≤ length own → rowFrom (λ k. getD (putOwn s trace own n) k 0) trace n ≡ rowOf s trace n
 unfolding rowOf

@@ -2,10 +2,11 @@
 use mathlib.Core.Path.{_≡_, refl, sym, ap, _∙_}
 use mathlib.Core.Bool.{Bool, true, false}
 use mathlib.Core.List.{List}
-use Prim.Native.Nat.{ℕ, _+_, _-_, _<_}
+use Prim.Native.Nat.{ℕ, _+_, _-_, _*_, _<_}
 use native.Mathlib.Decide.{decLt}
 use native.Mathlib.Omega.{arith}
-use Rattle.walk.proofs.Walk.{scan-on, scan-out, scan-done}
+use lib.ListN.{length}
+use Rattle.walk.proofs.Walk.{scan-on, scan-out, scan-done, pairs-length}
 use Rattle.walk.proofs.Pairs.{pairs-at}
 use Rattle.trace.specs.House.{stopAt}
 use Rattle.phase.specs.Phase.{stopEnd, stopGear, firstGear, firstRow, Carried}
@@ -36,7 +37,11 @@ last-gear trace n k l halt next =
     go (yes below) = scan-out (stopAt trace) (λ i. i) (λ i. i) n (k + 1) below (next below)
     go (no above) = scan-done (stopAt trace) (λ i. i) (λ i. i) n (k + 1) (omega arith)
 
--- the row before corrections
+-- the row before corrections: two bytes a second
+pub first-length : (own : ℕ → ℕ) (trace : List ℕ) (n : ℕ) → length (firstRow own trace n) ≡ 2 * n
+unfolding firstRow
+first-length own trace n = pairs-length (firstGear own trace n) (λ k. 0) n
+
 pub first-at : (own : ℕ → ℕ) (trace : List ℕ) (n k : ℕ) → k < n → gearAt (firstRow own trace n) k ≡ firstGear own trace n k
 unfolding firstRow
 first-at own trace n k l = pairs-at (firstGear own trace n) (λ k. 0) n k l .0

@@ -1,12 +1,12 @@
 -- Correction 6 with more fuel than seconds left is the same: the fuel bounds the turns and leaves no run unjudged. Assumes nothing.
-use mathlib.Core.Path.{_≡_, ap, _∙_}
+use mathlib.Core.Path.{_≡_, refl, ap, _∙_}
 use mathlib.Core.Bool.{Bool, true, false, cond}
 use mathlib.Core.List.{List}
 use Prim.Native.Nat.{ℕ, zero, suc, _+_, _-_, _<_, _≤_}
 use native.Mathlib.Omega.{arith}
 use lib.Dec.{ltb}
 use borrow.Author.Tests.{le-ltb}
-use Rattle.walk.specs.Walk.{scan}
+use Rattle.walk.proofs.Ends.{search-ends}
 use Rattle.trace.specs.House.{stopAt}
 use Rattle.row.specs.Row.{gearAt}
 use Rattle.runs.specs.Runs.{goesOn, takes, filled, endAt, runNext, rowAfter, nextAfter, smooth, smoothed}
@@ -15,15 +15,9 @@ cond-lt : (b : Bool) (k x y : ℕ) → k < x → k < y → k < cond b x y
 cond-lt true k x y p q = p
 cond-lt false k x y p q = q
 
--- a search ends where it starts, or after it
-scan-gt : (good : ℕ → Bool) (from k count : ℕ) → k < from → k < scan good (λ k. k) (λ k. k) from count
-scan-gt good from k zero h = h
-scan-gt good from k (suc count) h =
-    cond-lt (good from) k (scan good (λ k. k) (λ k. k) (from + 1) count) from (scan-gt good (from + 1) k count (omega arith)) h
-
 module _ (trace : List ℕ) (n : ℕ) where
   pub end-gt : (row : List ℕ) (start k : ℕ) → k ≤ start → k < endAt trace row n start
-  end-gt row start k h = scan-gt (goesOn trace row (gearAt row start)) (start + 1) k (n - (start + 1)) (omega arith)
+  end-gt row start k h = omega (arith, search-ends (goesOn trace row (gearAt row start)) _ (start + 1) (n - (start + 1)) refl .low)
 
   -- each turn goes on
   next-gt : (row : List ℕ) (start : ℕ) → start < nextAfter trace row n start

@@ -3,3 +3,4 @@ pub mod Fuel
 pub mod Frame
 pub mod Examples
 pub mod Fills
+pub mod Taken

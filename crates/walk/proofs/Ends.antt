@@ -15,7 +15,12 @@ pub record Ends (good : ℕ → Bool) (n k e : ℕ) : Type 0 where
 
 module _ (good : ℕ → Bool) (n : ℕ) where
   pub search-ends : (k count : ℕ) → n ≡ k + count → Ends good n k (scan good (λ i. i) (λ i. i) k count)
-  search-ends k zero e = record { low = omega arith; high = omega arith; inside = λ i h l. absurd (let z : ⊥ = omega arith in z); beyond = λ l. absurd (let z : ⊥ = omega arith in z) }
+  search-ends k zero e = record {
+    low = omega arith;
+    high = omega arith;
+    inside = λ i h l. absurd (let z : ⊥ = omega arith in z);
+    beyond = λ l. absurd (let z : ⊥ = omega arith in z);
+  }
   search-ends k (suc count) e = go (good k) refl (search-ends (k + 1) count (omega arith))
     where
       go : (b : Bool) → good k ≡ b → Ends good n (k + 1) (scan good (λ i. i) (λ i. i) (k + 1) count)
@@ -60,19 +65,3 @@ module _ (good : ℕ → Bool) (n : ℕ) where
           let high = ends .high in
           absurd (false≢true (sym (out (omega arith)) ∙ ends .inside m h far))
       go (no near) low = omega arith
-
--- every place before the one that a search ends at is good
-pub scan-before : (good : ℕ → Bool) (from count k : ℕ) → from ≤ k → k < scan good (λ i. i) (λ i. i) from count → good k ≡ true
-scan-before good from zero k h l = absurd (omega arith)
-scan-before good from (suc count) k h l =
-    go (good from) refl l (decLt from k) (λ past further. scan-before good (from + 1) count k (omega arith) further)
-  where
-    rest : ℕ
-    rest = scan good (λ i. i) (λ i. i) (from + 1) count
-
-    go : (b : Bool) → good from ≡ b → k < cond b rest from → Dec (from < k) → (from < k → k < rest → good k ≡ true) → good k ≡ true
-    go true e l (yes past) later = later past l
-    go true e l (no here) later =
-        let same : k ≡ from = omega arith in
-        ap good same ∙ e
-    go false e l d later = absurd (omega arith)

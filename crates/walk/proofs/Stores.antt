@@ -62,3 +62,10 @@ module _ {S : Type 0} (w : Storing S) where
   pub stored : (s : S) (n k : ℕ) → k < n → w .place k < length (w .bytes s) → getD (after s n) (w .place k) 0 ≡ w .new (inTurn (w .step) s k) k
   stored s zero k l room = absurd (omega arith)
   stored s (suc n) k l room = by-turn s n k (decLt k n) l room (λ below. stored s n k below room)
+
+-- a list with a number put at each of its first n places has them there
+abbrev putting : (ℕ → ℕ) → Storing (List ℕ)
+putting f = record { bytes = λ l. l; step = λ l k. set l k (f k); place = λ k. k; new = λ l k. f k; stores = λ l k. refl; apart = λ j k e. e }
+
+pub put-at : (f : ℕ → ℕ) (l : List ℕ) (n k : ℕ) → k < n → n ≤ length l → getD (inTurn (λ l k. set l k (f k)) l n) k 0 ≡ f k
+put-at f l n k h room = stored (putting f) l n k h (omega arith)

@@ -4,10 +4,9 @@ use mathlib.Core.Bool.{Bool, true, false, cond}
 use mathlib.Core.List.{List, [], _∷_, _++_, append-assoc}
 use Prim.Native.Nat.{ℕ, zero, suc, _+_, _-_, _*_, _<_, _≤_}
 use native.Mathlib.Numerals.{add-one}
-use native.Mathlib.Decide.{decLt}
 use native.Mathlib.Omega.{arith}
-use lib.ListN.{length, getD, set, drop, length-append, length-set}
-use lib.Seq.{drop-cons, set-at, append-snoc, getD-set-same, getD-set-other}
+use lib.ListN.{length, getD, set, drop, length-append}
+use lib.Seq.{drop-cons, set-at, append-snoc}
 use Rattle.walk.specs.Walk.{inTurn, scan, pairs}
 
 -- one step more
@@ -100,31 +99,3 @@ pairs-next one other d k e ea eb l =
     let n : 2 * k + 2 ≡ 2 * (k + 1) = omega arith in
     (λ i. set (set (e i) (2 * k) (ea i)) (2 * k + 1) (eb i)) ∙ two-stores (pairs one other k) d (2 * k) (one k) (other k) (pairs-length one other k) l
     ∙ (λ i. sym (pairs-more one other k) i ++ drop (n i) d)
-
--- the same at each of n places
-pub pairs-same : (one one′ other : ℕ → ℕ) (n : ℕ) → ((k : ℕ) → k < n → one k ≡ one′ k) → pairs one other n ≡ pairs one′ other n
-pairs-same one one′ other zero same = refl
-pairs-same one one′ other (suc n) same =
-    let before = pairs-same one one′ other n (λ k l. same k (omega arith)) in
-    let here = same n (omega arith) in
-    (λ i. before i ++ (here i ∷ other n ∷ []))
-
--- a list with a number put at each of its first n places has them there
-module _ (f : ℕ → ℕ) where
-  abbrev pub put : List ℕ → ℕ → List ℕ
-  put = inTurn (λ l k. set l k (f k))
-
-  pub put-length : (l : List ℕ) (n : ℕ) → length (put l n) ≡ length l
-  put-length l n = inTurn-keeps length (λ l k. set l k (f k)) (λ l k. length-set l k (f k)) l n
-
-  put-one : (l : List ℕ) (n k : ℕ) → Dec (k < n) → k < suc n → n < length l → (k < n → getD l k 0 ≡ f k) → getD (set l n (f n)) k 0 ≡ f k
-  put-one l n k (yes below) h room earlier = getD-set-other l n k (f n) 0 (λ e. absurd (let z : ⊥ = omega arith in z)) ∙ earlier below
-  put-one l n k (no above) h room earlier =
-      let e : k ≡ n = omega arith in
-      rw e (getD-set-same l n (f n) 0 room)
-
-  pub put-at : (l : List ℕ) (n k : ℕ) → k < n → n ≤ length l → getD (put l n) k 0 ≡ f k
-  put-at l zero k h room = absurd (omega arith)
-  put-at l (suc n) k h room =
-      let kept = put-length l n in
-      put-one (put l n) n k (decLt k n) h (omega arith) (λ below. put-at l n k below (omega arith))

@@ -35,7 +35,8 @@ loop-again c =
     let l = head .loop in
     let a = head .before .before .before .before .args in
     let end = ended .stop-end-from .ensures .0 in
-    let gear = rw (flagged .flags-at .ensures) at (c .first-gear .ensures) ∙ ap (λ (e : ℕ). gearBy (flagsAt (a .trace .now) (l .k)) (getD (a .own .now) (l .k) 0) (e - l .k)) end in (
+    let flags = rw (flagged .flags-at .ensures) at (c .first-gear .ensures) in
+    let gear = flags ∙ ap (λ (e : ℕ). gearBy (flagsAt (a .trace .now) (l .k)) (getD (a .own .now) (l .k) 0) (e - l .k)) end in (
       omega arith,
       simp length-set (omega arith),
       pairs-next (gears (a .trace .now) (a .own .now) (a .n)) (λ i. 0) (a .row .now) (l .k) (l .inv .2) gear refl (omega arith),

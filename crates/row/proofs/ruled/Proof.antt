@@ -46,18 +46,20 @@ unfolding ruled
 returns-5 c =
     let then3 = c .before in
     let second = then3 .before in
-    let told = second .before .before in
+    let first = second .before in
+    let told = first .before in
     simp
-    (drives (told .before .before), told .enum-told3 .given .1, sym (second .before .is-acceleration .ensures), sym (second .is-acceleration2 .ensures), then3 .if3 .taken)
+    (drives (told .before .before), told .enum-told3 .given .1, sym (first .is-acceleration .ensures), sym (second .is-acceleration2 .ensures), then3 .if3 .taken)
     (c .no-drop .ensures)
 
 returns-6 : tie.Need-returns-6
 unfolding ruled
 returns-6 c =
     let second = c .before in
-    let told = second .before .before in
+    let first = second .before in
+    let told = first .before in
     simp
-    (drives (told .before .before), told .enum-told3 .given .1, sym (second .before .is-acceleration .ensures), sym (second .is-acceleration2 .ensures), c .if3 .left)
+    (drives (told .before .before), told .enum-told3 .given .1, sym (first .is-acceleration .ensures), sym (second .is-acceleration2 .ensures), c .if3 .left)
 
 -- correction 5
 returns-7 : tie.Need-returns-7

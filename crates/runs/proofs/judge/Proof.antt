@@ -36,7 +36,7 @@ abbrev ended : tie.After-takes → tie.After-run-end
 ended c = c .before .before
 
 asked : (c : tie.After-takes) {b : Bool} → c .takes .result ≡ b
-    → takes (start (ended c) .args .trace .now) (start (ended c) .args .row .now) (start (ended c) .args .n) (start (ended c) .args .start) (ended c .run-end .result) ≡ b
+    → let a = start (ended c) .args in takes (a .trace .now) (a .row .now) (a .n) (a .start) (ended c .run-end .result) ≡ b
 asked c e = sym (c .takes .ensures .0) ∙ e
 
 -- where it does there is a second at its end

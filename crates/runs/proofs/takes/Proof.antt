@@ -23,9 +23,11 @@ returns-3 c =
     let behind = c .before .before .before in
     let before = behind .before in
     let marked = before .before in
-    let else2 = marked .before in (
+    let else2 = marked .before in
+    let halt = before .stop-at .ensures in
+    let halt2 = behind .stop-at2 .ensures in (
       simp
-          (ne-eqb _ _ (else2 .before .if1 .left), lt-leb _ _ (else2 .if2 .left), before .stop-at .ensures, behind .stop-at2 .ensures, sym (marked .has-no-first .ensures)),
+          (ne-eqb _ _ (else2 .before .if1 .left), lt-leb _ _ (else2 .if2 .left), halt, halt2, sym (marked .has-no-first .ensures)),
       λ h. omega (arith, else2 .if2 .left),
     )
 
