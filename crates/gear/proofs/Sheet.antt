@@ -20,7 +20,7 @@ use Rattle.vehicle.specs.declared.VehicleSheet.{VehicleSheet}
 use Rattle.vehicle.specs.Sheet.{judgeVehicle, Sound as SoundVehicle}
 use Rattle.vehicle.proofs.Sound.{accepted-sound as vehicle-sound}
 use Rattle.shift.specs.Speeds.{shiftOf}
-use Rattle.shift.proofs.Sides.{shift-usable}
+use Rattle.shift.proofs.Sides.{shift-ranges}
 use Rattle.gear.specs.Own.{judgeClose, Ready}
 use Rattle.gear.specs.Sheet.{judgeRoom, judgeSheet, gearAnswer, ifAccepted, withRow, gearBuffer}
 
@@ -47,7 +47,7 @@ sheet-sound trace v room start e =
 pub sheet-ready : {trace : List ℕ} {v : VehicleSheet} {room start : ℕ} → Sound trace v room start → Ready (shiftOf v) trace (countOf trace)
 sheet-ready s =
     let t = s .of-trace in
-    record { usable = shift-usable (s .of-vehicle); lasts = omega (arith, t .exact); few = t .few; speeds = t .speeds }
+    record { ranges = shift-ranges (s .of-vehicle); lasts = omega (arith, t .exact); few = t .few; speeds = t .speeds }
 
 module _ (trace : List ℕ) (v : VehicleSheet) (buffer : List ℕ) (start : ℕ) where
   -- a refusal of 1 to 8 is the answer; past them the comparisons decide

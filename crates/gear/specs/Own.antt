@@ -10,7 +10,7 @@ use Rattle.walk.specs.Walk.{inTurn, scan}
 use Rattle.trace.specs.House.{Lasts, speedAt, flagsAt, stop, acceleration}
 use Rattle.shift.specs.declared.Shift.{Shift}
 use Rattle.shift.specs.declared.Own.{Own}
-use Rattle.shift.specs.Speeds.{ownGear, Usable}
+use Rattle.shift.specs.Speeds.{ownGear, ShiftRanges}
 
 -- a second by its phase and its speed; a stop second is compared with nothing
 unfoldable pub ownSecond : Shift → ℕ → ℕ → Own
@@ -29,7 +29,7 @@ putOwn s trace = inTurn (λ own k. set own k (ownAt s trace k .gear))
 
 -- what an accepted trace and sheet give
 pub record Ready (s : Shift) (trace : List ℕ) (n : ℕ) : Type 0 where
-  pub usable : Usable s
+  pub ranges : ShiftRanges s
   pub lasts : Lasts trace n
   pub few : n ≤ 2000
   pub speeds : (k : ℕ) → k < n → speedAt trace k ≤ 2000

@@ -10,13 +10,13 @@ ghost use Prim.Native.Nat.{_*_, _≤_};
 ghost use lib.ListN.{length, getD, drop};
 ghost use Rattle.refusal.specs.declared.Judged.the-variants.{Accepted};
 ghost use Rattle.row.specs.Row.{HaveSeconds};
-ghost use Rattle.shift.specs.Speeds.{Usable};
+ghost use Rattle.shift.specs.Speeds.{ShiftRanges};
 ghost use Rattle.gear.specs.Own.{ownSecond, judgeClose, putOwn, Ready};
 ghost use Rattle.gear.specs.Sheet.{rowFrom, judgeSheet, gearAnswer, ifAccepted, withRow, gearBuffer};
 
 // The gear that a second's speed gives; a stop second is compared with nothing.
 pub fn own_second(s: Shift, flags: u8, speed: u32) -> Own
-    requires { ⌜ (Usable s) × (speed ≤ 2000) ⌝ }
+    requires { ⌜ (ShiftRanges s) × (speed ≤ 2000) ⌝ }
     ensures { λ r. ⌜ r ≡ ownSecond s flags speed ⌝ }
 {
     if trace::is_stop(flags) {

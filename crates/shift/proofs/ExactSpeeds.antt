@@ -56,7 +56,10 @@ module _ (k : ℕ) {a : Ends} (h : a .lower ≤ℤ a .upper) where
 
   scaled-is : scaledBy (pos k) a ≡ record { lower = pos k *ℤ a .lower; upper = pos k *ℤ a .upper }
   unfolding scaledBy
-  scaled-is = ap (λ (t : Bool). record { lower = cond t (pos k *ℤ a .lower) (pos k *ℤ a .upper); upper = cond t (pos k *ℤ a .upper) (pos k *ℤ a .lower) }) (order-true times-ordered)
+  scaled-is =
+      let l = pos k *ℤ a .lower in
+      let u = pos k *ℤ a .upper in
+      ap (λ (t : Bool). record { lower = cond t l u; upper = cond t u l }) (order-true times-ordered)
 
 -- ---- the two sides, from an end of e. They are 10,000 x 2^32 times the engine speeds in the brackets
 higherAt : ℕ → ℕ → ℤ → ℤ
@@ -128,14 +131,19 @@ module _ {v : VehicleSheet} (sound : Sound v) where
   higher-tied : (end : ℤ) → Tied (higherAt (v .rated - v .idle) (v .idle) end) (exactHigher v (fromUnits end))
   unfolding exactHigher higherAt
   higher-tied end =
-      subst (λ (w : Fraction). Tied (higherAt (v .rated - v .idle) (v .idle) end) (decimal (pos 5753) 10000 *ᶠ fromUnits end *ᶠ w +ᶠ whole (pos (v .idle)))) (sym (above-idle sound))
-      (record { k = 1000; some = omega arith; den = refl; num = higher-value (pos 10) (pos 100) sideUnit (pos 5753) (pos (v .rated - v .idle)) (pos (v .idle)) end })
+      let w = v .rated - v .idle in
+      let n = v .idle in
+      subst (λ (q : Fraction). Tied (higherAt w n end) (decimal (pos 5753) 10000 *ᶠ fromUnits end *ᶠ q +ᶠ whole (pos n))) (sym (above-idle sound))
+      (record { k = 1000; some = omega arith; den = refl; num = higher-value (pos 10) (pos 100) sideUnit (pos 5753) (pos w) (pos n) end })
 
   first-tied : (end : ℤ) → Tied (firstAt (v .rated - v .idle) (v .idle) end) (exactFirst v (fromUnits end))
   unfolding exactFirst firstAt exactly
   first-tied end =
-      subst (λ (w : Fraction). Tied (firstAt (v .rated - v .idle) (v .idle) end) ((decimal (pos 5753) 10000 *ᶠ fromUnits end -ᶠ decimal (pos 1) 10) *ᶠ w +ᶠ whole (pos (v .idle)))) (sym (above-idle sound))
-      (record { k = 10000; some = omega arith; den = refl; num = first-value (pos 10) (pos 100) (tenth .lower) (pos 5753) (pos (v .rated - v .idle)) (pos (v .idle)) end })
+      let w = v .rated - v .idle in
+      let n = v .idle in
+      let part = decimal (pos 5753) 10000 *ᶠ fromUnits end -ᶠ decimal (pos 1) 10 in
+      subst (λ (q : Fraction). Tied (firstAt w n end) (part *ᶠ q +ᶠ whole (pos n))) (sym (above-idle sound))
+      (record { k = 10000; some = omega arith; den = refl; num = first-value (pos 10) (pos 100) (tenth .lower) (pos 5753) (pos w) (pos n) end })
 
   power-ordered : powerOf v .lower ≤ℤ powerOf v .upper
   power-ordered = exponential-ordered (19 * v .power) (100 * (v .mass + 75)) (exponent sound .some)

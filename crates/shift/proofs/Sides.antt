@@ -14,7 +14,7 @@ use Rattle.arith.proofs.Size.{exactly-size, scaled-size, difference-size, wider
 use Rattle.vehicle.specs.declared.VehicleSheet.{VehicleSheet}
 use Rattle.vehicle.specs.Sheet.{Sound}
 use Rattle.shift.specs.Exponential.{Exponent}
-use Rattle.shift.specs.Speeds.{powerOf, sideUnit, higherPart, tenth, firstPart, shiftOf, InRange, Usable}
+use Rattle.shift.specs.Speeds.{powerOf, sideUnit, higherPart, tenth, firstPart, shiftOf, InRange, ShiftRanges}
 use Rattle.shift.specs.Fitting.{SideFits}
 use Rattle.shift.proofs.Terms.{exponential-size}
 
@@ -64,9 +64,9 @@ module _ {v : VehicleSheet} (s : Sound v) where
   pub first-fits : SideFits (firstPart v) (v .rated - v .idle) (v .idle)
   first-fits = sided (lit≤ tt) less-size
 
-  pub shift-usable : Usable (shiftOf v)
+  pub shift-ranges : ShiftRanges (shiftOf v)
   unfolding shiftOf
-  shift-usable =
+  shift-ranges =
       let g = s .ranged .gears in
       record { some = g .0; range = record { few = g .1; ndvs = λ i l. s .ndv i l .1 } }
 

@@ -55,5 +55,7 @@ less p q = ltZ (q .den *ℤ p .num) (p .den *ℤ q .num)
 -- a speed is below the upshift from gear i where it is below the one from the lower end of e, and above it where it is above the one from the upper end
 pub record Compared (v : VehicleSheet) (i speed : ℕ) : Type 0 where
   pub positive : (end : ℤ) → pos 0 <ℤ exactUpshift v (fromUnits end) i .den
-  pub is-below : below speed (ndvAt (v .ndv) i) (sideAt (firstSide v) (higherSide v) i) ≡ less (exactSpeed speed) (exactUpshift v (fromUnits (powerOf v .lower)) i)
-  pub is-above : above speed (ndvAt (v .ndv) i) (sideAt (firstSide v) (higherSide v) i) ≡ less (exactUpshift v (fromUnits (powerOf v .upper)) i) (exactSpeed speed)
+  pub is-below :
+      below speed (ndvAt (v .ndv) i) (sideAt (firstSide v) (higherSide v) i) ≡ less (exactSpeed speed) (exactUpshift v (fromUnits (powerOf v .lower)) i)
+  pub is-above :
+      above speed (ndvAt (v .ndv) i) (sideAt (firstSide v) (higherSide v) i) ≡ less (exactUpshift v (fromUnits (powerOf v .upper)) i) (exactSpeed speed)

@@ -105,6 +105,6 @@ pub record InRange (ndv : List ℕ) (n : ℕ) : Type 0 where
   pub ndvs : (i : ℕ) → i < n → getD ndv i 0 ≤ 100000
 
 -- what the shift speeds of an accepted sheet have
-pub record Usable (s : Shift) : Type 0 where
+pub record ShiftRanges (s : Shift) : Type 0 where
   pub some : 3 ≤ s .gears
   pub range : InRange (s .ndv) (s .gears)

@@ -5,7 +5,7 @@ use vehicle::VehicleSheet;
 ghost use mathlib.Core.Path.{_≡_};
 ghost use Rattle.shift.specs.Exponential.{nextTerm, withTerm, exponentialOf, Exponent};
 ghost use Rattle.shift.specs.Fitting.{TermFits, SideFits};
-ghost use Rattle.shift.specs.Speeds.{sideOf, shiftOf, leftOf, sideAt, oneOf, tallyOf, ownGear, InRange, Usable};
+ghost use Rattle.shift.specs.Speeds.{sideOf, shiftOf, leftOf, sideAt, oneOf, tallyOf, ownGear, InRange, ShiftRanges};
 ghost use Rattle.vehicle.specs.Sheet.{Sound};
 ghost use mathlib.Core.Bool.{cond};
 ghost use Prim.Native.Nat.{_≤_, _<_};
@@ -165,7 +165,7 @@ pub struct Own {
 
 // The gear of a second outside stop, before corrections.
 pub fn own_gear(s: Shift, accelerating: bool, speed: u32) -> Own
-    requires { ⌜ (Usable s) × (speed ≤ 2000) ⌝ }
+    requires { ⌜ (ShiftRanges s) × (speed ≤ 2000) ⌝ }
     ensures { λ r. ⌜ r ≡ ownGear s accelerating speed ⌝ }
 {
     let ndv = s.ndv;

@@ -47,7 +47,7 @@ own-second-requires c κs =
     let timed = c .before in
     let l = timed .before .before in
     let ready = l .before .before .before .pre .0 in
-    (ready .usable, rw (timed .speed-at .ensures .0) (ready .speeds (l .loop .k) (timed .before .loop-test .taken)))
+    (ready .ranges, rw (timed .speed-at .ensures .0) (ready .speeds (l .loop .k) (timed .before .loop-test .taken)))
 
 returns : tie.Need-returns Inv-loop μ-loop
 returns c =

@@ -1,62 +1,78 @@
 -- `vehicle::judge` meets its contract: a stage's refusal is handed up as it is, and past it the stage accepted. Assumes nothing.
 use mathlib.Core.Bool.{true, false, false≢true}
-use Prim.Native.Nat.{_-_}
+use Prim.Native.Nat.{_-_, _≤_}
 use mathlib.Core.Path.{_≡_, sym, _∙_}
 use native.Mathlib.Omega.{arith}
 use borrow.Author.Needs.{needs}
 use Rattle.refusal.specs.declared.Judged.the-variants.{Accepted}
 use Rattle.refusal.specs.Judging.{judgedBy}
-use Rattle.vehicle.specs.Sheet.{engineChecks, judgeGears, judgeVehicle, Ranged}
+use Rattle.vehicle.specs.declared.VehicleSheet.{VehicleSheet}
+use Rattle.vehicle.specs.Sheet.{engineChecks, judgeGears, judgeVehicle}
 use Rattle.vehicle.proofs.Sound.{engine-ranged}
 use Rattle.vehicle.proofs.judge.Statement.{statement}
 use Rattle.vehicle.proofs.judge.Tie as tie
 
--- past each `let .. else`
-abbrev engine : (c : tie.After-enum-told) → judgedBy (engineChecks (c .before .before .before .args .v)) ≡ Accepted
-engine c = sym (c .before .before .judge-engine .ensures) ∙ c .enum-told .given .1
+-- past the first `let .. else` the engine is in its ranges
+module _ (c : tie.After-enum-told) where
+  abbrev sheet : VehicleSheet
+  sheet = c .before .before .before .args .v
 
-abbrev ranged : (c : tie.After-enum-told) → Ranged (c .before .before .before .args .v)
-ranged c = engine-ranged _ (engine c)
+  engine : judgedBy (engineChecks sheet) ≡ Accepted
+  engine = sym (c .before .before .judge-engine .ensures) ∙ c .enum-told .given .1
 
-abbrev ratios : (c : tie.After-enum-told3) → judgeGears false (c .before .before .before .before .before .before .before .before .args .v .ndv) 0 (c .before .before .before .before .before .before .before .before .args .v .gears) ≡ Accepted
+  gears-range : (3 ≤ sheet .gears) × (sheet .gears ≤ 8)
+  gears-range = engine-ranged sheet engine .gears
+
+-- past the second so is each gear
+abbrev engine-told : tie.After-judge-gears → tie.After-enum-told
+engine-told c = c .before .before .before
+
+abbrev ratios-told : tie.After-enum-told3 → tie.After-enum-told
+ratios-told c = engine-told (c .before .before)
+
+ratios : (c : tie.After-enum-told3) → judgeGears false (sheet (ratios-told c) .ndv) 0 (sheet (ratios-told c) .gears) ≡ Accepted
 ratios c = sym (c .before .before .judge-gears .ensures) ∙ c .enum-told3 .given .1
 
-abbrev falls : (c : tie.After-enum-told5) → judgeGears true (c .before .before .before .before .before .before .before .before .before .before .before .args .v .ndv) 0 (c .before .before .before .before .before .before .before .before .before .before .before .args .v .gears - 1) ≡ Accepted
-falls c = sym (c .before .before .judge-gears2 .ensures) ∙ c .enum-told5 .given .1
+-- and past the third they fall
+abbrev before-fall : tie.After-enum-told5 → tie.After-enum-told3
+before-fall c = c .before .before .before
+
+fall : (c : tie.After-enum-told5) → let v = sheet (ratios-told (before-fall c)) in judgeGears true (v .ndv) 0 (v .gears - 1) ≡ Accepted
+fall c = sym (c .before .before .judge-gears2 .ensures) ∙ c .enum-told5 .given .1
 
 returns : tie.Need-returns
 unfolding judgeVehicle
 returns c = simp (sym (c .before .before .judge-engine .ensures), c .enum-told2 .given .1)
 
 judge-gears-requires : tie.Need-judge-gears-requires
-judge-gears-requires c κs = record { here = ranged (c .before .before) .gears .1; next = λ e. absurd (false≢true e) }
+judge-gears-requires c κs = record { here = gears-range (c .before .before) .1; next = λ e. absurd (false≢true e) }
 
 returns-2 : tie.Need-returns-2
 unfolding judgeVehicle
 returns-2 c =
-    let after = c .before .before in
-    simp (engine (after .before .before .before), sym (after .judge-gears .ensures), c .enum-told4 .given .1)
+    let judged = c .before .before in
+    simp (engine (engine-told judged), sym (judged .judge-gears .ensures), c .enum-told4 .given .1)
 
 sub-judge-gears : tie.Need-sub-judge-gears
-sub-judge-gears c = omega (arith, ranged (c .before .before .before .before .before) .gears)
+sub-judge-gears c = omega (arith, gears-range (ratios-told c))
 
 judge-gears-requires-2 : tie.Need-judge-gears-requires-2
 judge-gears-requires-2 c κs =
-    let r = ranged (c .before .before .before .before .before) in
-    record { here = omega (arith, r .gears); next = λ e. omega (arith, r .gears) }
+    let gears = gears-range (ratios-told c) in
+    record { here = omega (arith, gears); next = λ e. omega (arith, gears) }
 
 returns-3 : tie.Need-returns-3
 unfolding judgeVehicle
 returns-3 c =
-    let after = c .before .before in
-    simp (engine (after .before .before .before .before .before .before), ratios (after .before), sym (after .judge-gears2 .ensures), c .enum-told6 .given .1)
+    let judged = c .before .before in
+    let told = judged .before in
+    simp (engine (ratios-told told), ratios told, sym (judged .judge-gears2 .ensures), c .enum-told6 .given .1)
 
 returns-4 : tie.Need-returns-4
 unfolding judgeVehicle
 returns-4 c =
-    let told5 = c .before .before .before in
-    let told3 = told5 .before .before .before in
-    simp (engine (told3 .before .before .before .before .before), ratios told3, falls told5) (c .check .ensures)
+    let told = c .before .before .before in
+    simp (engine (ratios-told (before-fall told)), ratios (before-fall told), fall told) (c .check .ensures)
 
 pub judge-spec : {M : Type 1} → statement M
 judge-spec =

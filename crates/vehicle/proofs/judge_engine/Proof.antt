@@ -4,7 +4,9 @@ use Rattle.vehicle.proofs.judge_engine.Tie as tie
 
 returns : tie.Need-returns
 returns c =
-    simp (c .ranged4 .ensures, c .before .ranged3 .ensures, c .before .before .ranged2 .ensures, c .before .before .before .idle-ranged .ensures, c .before .before .before .before .ranged .ensures)
+    let rated = c .before .before in
+    let idle = rated .before in
+    simp (c .ranged4 .ensures, c .before .ranged3 .ensures, rated .ranged2 .ensures, idle .idle-ranged .ensures, idle .before .ranged .ensures)
 
 pub judge-engine-spec : {M : Type 1} → statement M
 judge-engine-spec = tie.close (tie.spec (λ c κs. tt) (λ c κs. tt) (λ c κs. tt) (λ c κs. tt) (λ c κs. tt) returns)
