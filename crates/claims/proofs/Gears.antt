@@ -15,8 +15,8 @@ use Rattle.shift.specs.Speeds.{shiftOf}
 use Rattle.row.specs.Row.{gearAt}
 use Rattle.phase.specs.Phase.{stopEnd, stopGear}
 use Rattle.gear.specs.Sheet.{gearAnswer}
-use Rattle.claims.specs.Rows.{finishedRow, AtMostOneStep}
-use Rattle.claims.proofs.Rows.{row-held, accepted-sound}
+use Rattle.claims.specs.Rows.{finishedRow, AtMostOneStep, Written, Driven}
+use Rattle.claims.proofs.Rows.{row-held, accepted-sound, outside-kept, length-kept, clutch-is, clutch-bit}
 use Rattle.phase.proofs.Stops.{last-gear}
 use Rattle.row.proofs.Ranges.{leastBy, least-range}
 use Rattle.claims.proofs.Smoothing.{Fit}
@@ -77,3 +77,22 @@ module _ (trace : List ℕ) (v : VehicleSheet) (buffer : List ℕ) (start : ℕ)
   one-step k l e =
       subst (λ (j : ℕ). AtMostOneStep (gearAt (finishedRow trace v buffer start) k) (gearAt (finishedRow trace v buffer start) j)) (sym (add-one k))
       (held .near k (omega arith) (ap (stopAt trace) (sym (add-one k)) ∙ e))
+
+  -- all that is claimed of the buffer, and of a second
+  pub written : Written trace v buffer start
+  written =
+      let outside = outside-kept trace v buffer start accepted in
+      record { row = row-held trace v buffer start accepted; before = outside .0; behind = outside .1; long = length-kept trace v buffer start accepted }
+
+  pub driven : (k : ℕ) → k < countOf trace → Driven trace v (finishedRow trace v buffer start) k
+  driven k l =
+      record {
+        clutch = clutch-is trace v buffer start accepted k l;
+        in-or-out = clutch-bit trace v buffer start accepted k l;
+        most = gear-most k l;
+        neutral = neutral-only-in-stop k l;
+        stopped = stop-kept k l;
+        in-first = stop-ends-in-first k l;
+        not-first = no-first-kept k l;
+        next = one-step k;
+      }

@@ -20,7 +20,8 @@ pub record UpTo (m : ℕ) (e : Ends) : Type 0 where
 abbrev pub largestReading : ℕ
 largestReading = 16777216
 
--- what may enter the concentration has either sign, and up to twice a reading: 2^25. Then each stage after it gives up to four times as much
+-- what may enter the concentration has either sign, and up to twice a reading: 2^25. Then each stage after it gives up to four times as much, and the
+-- largest product on that way, a volume times a concentration, is 1.5 x 10^18 of the 9.2 x 10^18 that 64 signed bits hold
 abbrev pub largestSigned : ℕ
 largestSigned = 33554432
 
