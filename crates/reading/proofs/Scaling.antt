@@ -13,7 +13,7 @@ use lib.Ieee.{Float, nan, inf, fin, binary32, binary64, up, down, mul, lt, le, t
 use lib.Ieee.Fits.{down-pos}
 use Rattle.arith.specs.Rounding.{divDown}
 use Rattle.arith.specs.Stages.{exactly}
-use Rattle.reading.specs.Units.{value, exactValue, upToLimit, inUnits}
+use Rattle.reading.specs.Units.{value, exactValue, mostUnits, upToLimit, inUnits}
 use Rattle.reading.specs.declared.Worth.the-variants.{Units, Unusable}
 use Rattle.reading.proofs.Product.{widened-product}
 use Rattle.reading.proofs.Tests.{zeroFloat, pastLimit, zero-or-plus, below-zero, in-limit, past-limit, cut}
@@ -103,14 +103,14 @@ refused-below (fin false m e) k p = absurd (below-zero false m e p .0)
 refused-below (fin true m e) k p = minus (m * up e) (pos k) (pos (down e)) (below-zero true m e p .1)
 
 -- 65,537 is over the limit at any scale from that of ppm on
-far : (k n d : ℕ) → 0 < d → 256 ≤ k → 65537 * d ≤ n → 16777216 < nearestOf (k * n) d
+far : (k n d : ℕ) → 0 < d → 256 ≤ k → 65537 * d ≤ n → mostUnits < nearestOf (k * n) d
 far k n d D K N = le-div-iff-mul-le (mul-pos (zero-lt-suc 1) D) .1 (room (k * n) d (mul-le-mul K N))
   where
     room : (z d : ℕ) → 256 * (65537 * d) ≤ z → 16777217 * (2 * d) ≤ 2 * z + d
     room z d h = omega arith
 
-pub past : (u : ℕ) → 16777216 < u → Unusable ≡ upToLimit (pos u)
-past u h = sym (ap (λ (t : Bool). cond t (Units (exactly (pos u))) Unusable) (lt-leb u 16777216 h))
+pub past : (u : ℕ) → mostUnits < u → Unusable ≡ upToLimit (pos u)
+past u h = sym (ap (λ (t : Bool). cond t (Units (exactly (pos u))) Unusable) (lt-leb u mostUnits h))
 
 pub refused-above : (x : Float) (k : ℕ) → 256 ≤ k → le zeroFloat x ≡ true → le x pastLimit ≡ false → Unusable ≡ inUnits (pos k) (exactValue x)
 refused-above nan k K p q = refl

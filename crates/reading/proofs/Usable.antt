@@ -12,19 +12,19 @@ use Rattle.arith.specs.Stages.{exactly}
 use Rattle.reading.specs.declared.Message.{Message}
 use Rattle.reading.specs.declared.Message.the-variants.{Ppm, Percent, OverRange, NotFitted}
 use Rattle.reading.specs.declared.Worth.the-variants.{Units, Unusable}
-use Rattle.reading.specs.Units.{exactValue, upToLimit, inUnits, unitsOf}
+use Rattle.reading.specs.Units.{exactValue, mostUnits, upToLimit, inUnits, unitsOf}
 use Rattle.reading.proofs.Scaling.{nearestOf, plain, minus}
 
 pub record Usable (e : Ends) : Type 0 where
   pub units : ℕ
-  pub limit : units ≤ 16777216
+  pub limit : units ≤ mostUnits
   pub exact : e ≡ exactly (pos units)
 
 -- the limit was kept
 limited : (u : ℕ) {e : Ends} → upToLimit (pos u) ≡ Units e → Usable e
-limited u {e} h = go (leb u 16777216) (leb→le u 16777216) h
+limited u {e} h = go (leb u mostUnits) (leb→le u mostUnits) h
   where
-    go : (t : Bool) → (T t → u ≤ 16777216) → cond t (Units (exactly (pos u))) Unusable ≡ Units e → Usable e
+    go : (t : Bool) → (T t → u ≤ mostUnits) → cond t (Units (exactly (pos u))) Unusable ≡ Units e → Usable e
     go true f h = record { units = u; limit = f tt; exact = cc }
     go false f h = absurd (false≢true (cc))
 

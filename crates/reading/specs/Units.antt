@@ -1,6 +1,6 @@
 -- What a message of the analyser is worth in units of 1/256 ppm (01, Bag sheet and figures, first paragraph).
 -- A float is `nan`, `inf s` or `fin s m e`: m · 2ᵉ, with a minus where s is true. `up e / down e` is 2ᵉ (lib.Ieee).
-use Prim.Native.Nat.{_*_}
+use Prim.Native.Nat.{ℕ, _*_}
 use mathlib.Core.Bool.{cond}
 use lib.IntN.{ℤ, pos, negℤ}
 use lib.Signed.{leZ, ltZ}
@@ -35,9 +35,13 @@ wholePart q = divDown (q .num) (q .den)
 abbrev pub nearest : Fraction → ℤ
 nearest q = wholePart (q +ᶠ half)
 
--- "after rounding more than 16,777,216 units" is unusable. A usable reading enters the stages as ends, both the same.
+-- "after rounding more than 16,777,216 units" is unusable
+abbrev pub mostUnits : ℕ
+mostUnits = 16777216
+
+-- a usable reading enters the stages as ends, both the same
 abbrev pub upToLimit : ℤ → Worth
-upToLimit u = cond (leZ u (pos 16777216)) (Units (exactly u)) Unusable
+upToLimit u = cond (leZ u (pos mostUnits)) (Units (exactly u)) Unusable
 
 -- `each` units to one ppm or percent; "below zero" is unusable
 abbrev pub inUnits : ℤ → Exact → Worth

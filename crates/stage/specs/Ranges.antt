@@ -6,6 +6,7 @@ use lib.IntN.{ℤ, pos}
 use lib.Signed.{_≤ℤ_}
 use Rattle.arith.specs.declared.Ends.{Ends}
 use Rattle.arith.specs.Fitting.{Sized}
+use Rattle.reading.specs.Units.{mostUnits}
 use Rattle.bag.specs.Fields.{mostPumped, barometerRange, depressionRange, coldest, hottest, humidityRange, saturationRange, distanceRange, densityRange}
 use Rattle.bag.specs.Fields.{dRange, wRange, kRange, factorRange, fuelDensityRange}
 use Rattle.stage.specs.Part.{qOf, dilutionGood, humidityGood}
@@ -18,12 +19,12 @@ pub record UpTo (m : ℕ) (e : Ends) : Type 0 where
 
 -- ---- the largest of each: readings and G in 1/256 ppm, then ml, 1/4,096 ppm, microlitres, micrograms, 1/65,536, micrograms, micrograms/km
 abbrev pub largestReading : ℕ
-largestReading = 16777216
+largestReading = mostUnits
 
 -- what may enter the concentration has either sign, and up to twice a reading: 2^25. Then each stage after it gives up to four times as much, and the
 -- largest product on that way, a volume times a concentration, is 1.5 x 10^18 of the 9.2 x 10^18 that 64 signed bits hold
 abbrev pub largestSigned : ℕ
-largestSigned = 33554432
+largestSigned = 2 * largestReading
 
 abbrev pub largestG : ℕ
 largestG = 838860800

@@ -8,6 +8,7 @@ use borrow.Author.Tests.{le-leb}
 use Rattle.arith.specs.Stages.{exactly}
 use Rattle.arith.proofs.Machine.{back}
 use Rattle.reading.specs.declared.Worth.the-variants.{Units, Unusable}
+use Rattle.reading.specs.Units.{mostUnits}
 use Rattle.reading.proofs.Scaling.{past}
 use Rattle.reading.proofs.up_to_limit.Statement.{statement}
 use Rattle.reading.proofs.up_to_limit.Tie as tie
@@ -17,7 +18,7 @@ returns c =
     let u = c .before .before .args .units in
     ap Units (c .exactly .ensures)
     ∙ ap (λ (z : ℤ). Units (exactly z)) (back (pos u) (omega (arith, c .before .if1 .taken)))
-    ∙ sym (ap (λ (t : Bool). cond t (Units (exactly (pos u))) Unusable) (le-leb u 16777216 (c .before .if1 .taken)))
+    ∙ sym (ap (λ (t : Bool). cond t (Units (exactly (pos u))) Unusable) (le-leb u mostUnits (c .before .if1 .taken)))
 
 returns-2 : tie.Need-returns-2
 returns-2 c = past (c .before .args .units) (c .if1 .left)
