@@ -13,8 +13,9 @@ use Rattle.refusal.specs.Judging.{checked, Check, checkedAll, judgedBy, andThen
 use Rattle.refusal.proofs.Judging.{checkedAll-append, checkedAll-then}
 use Rattle.walk.specs.Walk.{scan}
 use Rattle.vehicle.specs.declared.VehicleSheet.{VehicleSheet}
-use Rattle.trace.specs.House.{headed, countOf}
-use Rattle.trace.specs.Judging.{countable, secondGood, judgeTrace, judgePair}
+use Rattle.house.specs.House.{headed, countOf}
+use Rattle.trace.specs.Judging.{countable, judgeTrace, judgePair}
+use Rattle.house.specs.House.{secondGood}
 use Rattle.vehicle.specs.Sheet.{engineChecks, gearGood, gearRefusal, mild, judgeVehicle}
 use Rattle.shift.specs.Speeds.{shiftOf}
 use Rattle.gear.specs.Own.{ownAt}

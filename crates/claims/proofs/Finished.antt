@@ -6,7 +6,7 @@ use mathlib.Core.List.{List}
 use Prim.Native.Nat.{ℕ, suc, _-_, _*_, _≤_}
 use native.Mathlib.Omega.{arith}
 use lib.ListN.{length}
-use Rattle.trace.specs.House.{flagsAt, speedAt, stop, acceleration}
+use Rattle.house.specs.House.{flagsAt, speedAt, stop, acceleration}
 use Rattle.shift.specs.declared.Shift.{Shift}
 use Rattle.shift.specs.declared.Own.{Own}
 use Rattle.shift.specs.Speeds.{aboveAt, tallyOf, ownGear}

@@ -9,7 +9,7 @@ use native.Mathlib.Omega.{arith}
 use lib.Dec.{ltb}
 use lib.ListN.{length}
 use Rattle.refusal.specs.declared.Judged.the-variants.{Accepted}
-use Rattle.trace.specs.House.{countOf, flagsAt, stopAt, noFirstAt}
+use Rattle.house.specs.House.{countOf, flagsAt, stopAt, noFirstAt}
 use Rattle.vehicle.specs.declared.VehicleSheet.{VehicleSheet}
 use Rattle.shift.specs.Speeds.{shiftOf}
 use Rattle.row.specs.Row.{gearAt}

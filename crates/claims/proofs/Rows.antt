@@ -10,7 +10,7 @@ use Rattle.refusal.specs.declared.Judged.{Judged}
 use Rattle.refusal.specs.declared.Judged.the-variants.{Accepted, Refused}
 use Rattle.refusal.specs.declared.Refusal.{Refusal}
 use Rattle.refusal.proofs.Judging.{then-holds}
-use Rattle.trace.specs.House.{countOf, flagsAt, speedAt}
+use Rattle.house.specs.House.{countOf, flagsAt, speedAt}
 use Rattle.vehicle.specs.declared.VehicleSheet.{VehicleSheet}
 use Rattle.shift.specs.declared.Shift.{Shift}
 use Rattle.shift.specs.Speeds.{shiftOf}

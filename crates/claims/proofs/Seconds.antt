@@ -7,7 +7,7 @@ use Prim.Native.Nat.{ℕ, zero, suc, _-_, _*_, _≤_, _<_}
 use native.Mathlib.Numerals.{add-one}
 use native.Mathlib.Omega.{arith}
 use lib.ListN.{length}
-use Rattle.trace.specs.House.{flagsAt, stopAt}
+use Rattle.house.specs.House.{flagsAt, stopAt}
 use Rattle.row.specs.declared.Rule.{Rule}
 use Rattle.row.specs.Row.{gearAt}
 use Rattle.row.specs.Corrections.{capRuns, ruled, passBy}

@@ -8,7 +8,7 @@ use native.Mathlib.Decide.{decLt}
 use native.Mathlib.Omega.{arith}
 use lib.Dec.{ltb}
 use lib.ListN.{length}
-use Rattle.trace.specs.House.{flagsAt, stopAt, noFirstAt}
+use Rattle.house.specs.House.{flagsAt, stopAt, noFirstAt}
 use Rattle.row.specs.declared.Rule.the-variants.{OneStep}
 use Rattle.row.specs.Row.{gearAt}
 use Rattle.row.specs.Corrections.{byRule, passBy}

@@ -13,7 +13,7 @@ use Rattle.refusal.specs.declared.Judged.{Judged}
 use Rattle.refusal.specs.declared.Judged.the-variants.{Accepted, Refused}
 use Rattle.refusal.specs.Judging.{checked, Check, judgedBy}
 use Rattle.vehicle.specs.declared.VehicleSheet.{VehicleSheet}
-use Rattle.trace.specs.House.{countOf}
+use Rattle.house.specs.House.{countOf}
 use Rattle.trace.specs.Judging.{judgePair}
 use Rattle.gear.specs.Sheet.{gearAnswer}
 use Rattle.stage.specs.Part.{humidityGood}

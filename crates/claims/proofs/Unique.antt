@@ -9,6 +9,7 @@ use denote.Triple.Clauses.{Lasts, atExit}
 use Rattle.claims.specs.Coincide.{Coincide}
 use Rattle.trace.specs.Choice.{view}
 use Rattle.trace.proofs as trace
+use Rattle.house.proofs as house
 use Rattle.arith.proofs as arith
 use Rattle.refusal.proofs as refusal
 use Rattle.row.proofs as row
@@ -76,39 +77,46 @@ refusal-place-of-unique κs a x y ws vs pre h h′ = (h ∙ sym h′, refl)
 pub refusal-check-unique : Coincide 0 refusal.check.Kinds.ps refusal.check.Kinds.r refusal.check.Reads.Pre refusal.check.Reads.Post
 refusal-check-unique κs a x y ws vs pre h h′ = (h ∙ sym h′, refl)
 
+-- ---- house
+pub house-count-of-unique : Coincide 1 house.count_of.Kinds.ps house.count_of.Kinds.r house.count_of.Reads.Pre house.count_of.Reads.Post
+house-count-of-unique κs a x y ws vs pre h h′ = (h .0 ∙ sym (h′ .0), refl)
+
+pub house-speed-at-unique : Coincide 1 house.speed_at.Kinds.ps house.speed_at.Kinds.r house.speed_at.Reads.Pre house.speed_at.Reads.Post
+house-speed-at-unique κs a x y ws vs pre h h′ = (h .0 ∙ sym (h′ .0), refl)
+
+pub house-flags-at-unique : Coincide 1 house.flags_at.Kinds.ps house.flags_at.Kinds.r house.flags_at.Reads.Pre house.flags_at.Reads.Post
+house-flags-at-unique κs a x y ws vs pre h h′ = (h ∙ sym h′, refl)
+
+pub house-stop-at-unique : Coincide 1 house.stop_at.Kinds.ps house.stop_at.Kinds.r house.stop_at.Reads.Pre house.stop_at.Reads.Post
+house-stop-at-unique κs a x y ws vs pre h h′ = (h ∙ sym h′, refl)
+
+pub house-is-stop-unique : Coincide 0 house.is_stop.Kinds.ps house.is_stop.Kinds.r house.is_stop.Reads.Pre house.is_stop.Reads.Post
+house-is-stop-unique κs a x y ws vs pre h h′ = (h ∙ sym h′, refl)
+
+pub house-is-acceleration-unique : Coincide 0 house.is_acceleration.Kinds.ps house.is_acceleration.Kinds.r house.is_acceleration.Reads.Pre house.is_acceleration.Reads.Post
+house-is-acceleration-unique κs a x y ws vs pre h h′ = (h ∙ sym h′, refl)
+
+pub house-is-deceleration-unique : Coincide 0 house.is_deceleration.Kinds.ps house.is_deceleration.Kinds.r house.is_deceleration.Reads.Pre house.is_deceleration.Reads.Post
+house-is-deceleration-unique κs a x y ws vs pre h h′ = (h ∙ sym h′, refl)
+
+pub house-no-shift-unique : Coincide 0 house.no_shift.Kinds.ps house.no_shift.Kinds.r house.no_shift.Reads.Pre house.no_shift.Reads.Post
+house-no-shift-unique κs a x y ws vs pre h h′ = (h ∙ sym h′, refl)
+
+pub house-no-first-unique : Coincide 0 house.no_first.Kinds.ps house.no_first.Kinds.r house.no_first.Reads.Pre house.no_first.Reads.Post
+house-no-first-unique κs a x y ws vs pre h h′ = (h ∙ sym h′, refl)
+
+pub house-has-head-unique : Coincide 1 house.has_head.Kinds.ps house.has_head.Kinds.r house.has_head.Reads.Pre house.has_head.Reads.Post
+house-has-head-unique κs a x y ws vs pre h h′ = (h ∙ sym h′, refl)
+
+pub house-is-good-unique : Coincide 1 house.is_good.Kinds.ps house.is_good.Kinds.r house.is_good.Reads.Pre house.is_good.Reads.Post
+house-is-good-unique κs a x y ws vs pre h h′ = (h ∙ sym h′, refl)
+
 -- ---- trace
-pub trace-count-of-unique : Coincide 1 trace.count_of.Kinds.ps trace.count_of.Kinds.r trace.count_of.Reads.Pre trace.count_of.Reads.Post
-trace-count-of-unique κs a x y ws vs pre h h′ = (h .0 ∙ sym (h′ .0), refl)
-
-pub trace-speed-at-unique : Coincide 1 trace.speed_at.Kinds.ps trace.speed_at.Kinds.r trace.speed_at.Reads.Pre trace.speed_at.Reads.Post
-trace-speed-at-unique κs a x y ws vs pre h h′ = (h .0 ∙ sym (h′ .0), refl)
-
 pub trace-judge-unique : Coincide 1 trace.judge.Kinds.ps trace.judge.Kinds.r trace.judge.Reads.Pre trace.judge.Reads.Post
 trace-judge-unique κs a x y ws vs pre h h′ = (h ∙ sym h′, refl)
 
 pub trace-judge-pair-unique : Coincide 2 trace.judge_pair.Kinds.ps trace.judge_pair.Kinds.r trace.judge_pair.Reads.Pre trace.judge_pair.Reads.Post
 trace-judge-pair-unique κs a x y ws vs pre h h′ = (h ∙ sym h′, refl)
-
-pub trace-flags-at-unique : Coincide 1 trace.flags_at.Kinds.ps trace.flags_at.Kinds.r trace.flags_at.Reads.Pre trace.flags_at.Reads.Post
-trace-flags-at-unique κs a x y ws vs pre h h′ = (h ∙ sym h′, refl)
-
-pub trace-stop-at-unique : Coincide 1 trace.stop_at.Kinds.ps trace.stop_at.Kinds.r trace.stop_at.Reads.Pre trace.stop_at.Reads.Post
-trace-stop-at-unique κs a x y ws vs pre h h′ = (h ∙ sym h′, refl)
-
-pub trace-is-stop-unique : Coincide 0 trace.is_stop.Kinds.ps trace.is_stop.Kinds.r trace.is_stop.Reads.Pre trace.is_stop.Reads.Post
-trace-is-stop-unique κs a x y ws vs pre h h′ = (h ∙ sym h′, refl)
-
-pub trace-is-acceleration-unique : Coincide 0 trace.is_acceleration.Kinds.ps trace.is_acceleration.Kinds.r trace.is_acceleration.Reads.Pre trace.is_acceleration.Reads.Post
-trace-is-acceleration-unique κs a x y ws vs pre h h′ = (h ∙ sym h′, refl)
-
-pub trace-is-deceleration-unique : Coincide 0 trace.is_deceleration.Kinds.ps trace.is_deceleration.Kinds.r trace.is_deceleration.Reads.Pre trace.is_deceleration.Reads.Post
-trace-is-deceleration-unique κs a x y ws vs pre h h′ = (h ∙ sym h′, refl)
-
-pub trace-no-shift-unique : Coincide 0 trace.no_shift.Kinds.ps trace.no_shift.Kinds.r trace.no_shift.Reads.Pre trace.no_shift.Reads.Post
-trace-no-shift-unique κs a x y ws vs pre h h′ = (h ∙ sym h′, refl)
-
-pub trace-no-first-unique : Coincide 0 trace.no_first.Kinds.ps trace.no_first.Kinds.r trace.no_first.Reads.Pre trace.no_first.Reads.Post
-trace-no-first-unique κs a x y ws vs pre h h′ = (h ∙ sym h′, refl)
 
 -- ---- row
 pub row-cap-runs-unique : Coincide 2 row.cap_runs.Kinds.ps row.cap_runs.Kinds.r row.cap_runs.Reads.Pre row.cap_runs.Reads.Post

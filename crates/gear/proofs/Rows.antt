@@ -6,7 +6,7 @@ use Prim.Native.Nat.{ℕ, _-_, _≤_, _<_}
 use lib.ListN.{length, getD}
 use Rattle.walk.proofs.Pairs.{pairs-both}
 use Rattle.walk.proofs.Stores.{put-at}
-use Rattle.trace.specs.House.{flagsAt}
+use Rattle.house.specs.House.{flagsAt}
 use Rattle.shift.specs.declared.Shift.{Shift}
 use Rattle.phase.specs.Phase.{stopEnd, gearBy, firstGear, firstRow, clutched}
 use Rattle.runs.specs.Corrected.{corrected}

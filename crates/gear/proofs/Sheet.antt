@@ -13,7 +13,7 @@ use Rattle.refusal.specs.declared.Refusal.the-variants.{Room}
 use Rattle.refusal.specs.Judging.{andThen}
 use Rattle.refusal.proofs.Ranges.{both}
 use Rattle.refusal.proofs.Judging.{checked-holds, then-holds}
-use Rattle.trace.specs.House.{countOf}
+use Rattle.house.specs.House.{countOf}
 use Rattle.trace.specs.Judging.{judgeTrace, Sound as SoundTrace}
 use Rattle.trace.proofs.Sound.{accepted-sound as trace-sound}
 use Rattle.vehicle.specs.declared.VehicleSheet.{VehicleSheet}

@@ -7,7 +7,7 @@ use Rattle.refusal.specs.declared.Judged.{Judged}
 use Rattle.refusal.specs.declared.Judged.the-variants.{Accepted, Refused}
 use Rattle.refusal.specs.declared.Refusal.the-variants.{TooClose}
 use Rattle.walk.specs.Walk.{inTurn, scan}
-use Rattle.trace.specs.House.{Lasts, speedAt, flagsAt, stop, acceleration}
+use Rattle.house.specs.House.{Lasts, speedAt, flagsAt, stop, acceleration}
 use Rattle.shift.specs.declared.Shift.{Shift}
 use Rattle.shift.specs.declared.Own.{Own}
 use Rattle.shift.specs.Speeds.{ownGear, ShiftRanges}

@@ -8,7 +8,7 @@ use Rattle.refusal.specs.declared.Judged.{Judged}
 use Rattle.refusal.specs.declared.Judged.the-variants.{Accepted, Refused}
 use Rattle.refusal.specs.declared.Refusal.the-variants.{Room}
 use Rattle.refusal.specs.Judging.{checked, andThen}
-use Rattle.trace.specs.House.{countOf}
+use Rattle.house.specs.House.{countOf}
 use Rattle.trace.specs.Judging.{judgeTrace}
 use Rattle.vehicle.specs.declared.VehicleSheet.{VehicleSheet}
 use Rattle.vehicle.specs.Sheet.{judgeVehicle}

@@ -19,13 +19,13 @@ pub fn own_second(s: Shift, flags: u8, speed: u32) -> Own
     requires { ⌜ (ShiftRanges s) × (speed ≤ 2000) ⌝ }
     ensures { λ r. ⌜ r ≡ ownSecond s flags speed ⌝ }
 {
-    if trace::is_stop(flags) {
+    if house::is_stop(flags) {
         return Own {
             gear: 0,
             close: false,
         };
     }
-    shift::own_gear(s, trace::is_acceleration(flags), speed)
+    shift::own_gear(s, house::is_acceleration(flags), speed)
 }
 
 // Refusal 9, and the gears by the way, so that no comparison is made twice.
@@ -35,8 +35,8 @@ fn own_gears(s: Shift, trace: &[u8], own: &mut [u8], n: usize) -> Judged
 {
     let mut k = 0;
     while k < n {
-        let speed = trace::speed_at(trace, k) as u32;
-        let second = own_second(s, trace::flags_at(trace, k), speed);
+        let speed = house::speed_at(trace, k) as u32;
+        let second = own_second(s, house::flags_at(trace, k), speed);
         if second.close {
             let place = (k + 1) as u32;
             return Judged::Refused(Refusal::TooClose { second: place });
@@ -92,7 +92,7 @@ fn judge_sheet(trace: &[u8], v: VehicleSheet, room: usize, start: usize) -> Judg
     let Judged::Accepted = second else {
         return second;
     };
-    let n = trace::count_of(trace);
+    let n = house::count_of(trace);
     if room < start {
         return Judged::Refused(Refusal::Room);
     }
@@ -108,6 +108,6 @@ pub fn write_gears(trace: &[u8], v: VehicleSheet, buffer: &mut [u8], start: usiz
     let Judged::Accepted = judged else {
         return judged;
     };
-    let n = trace::count_of(trace);
+    let n = house::count_of(trace);
     fill(shift::shift_of(v), trace, &mut buffer[start..], n)
 }

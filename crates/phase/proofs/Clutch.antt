@@ -7,7 +7,7 @@ use native.Mathlib.Omega.{arith}
 use lib.Dec.{ltb}
 use lib.ListN.{length}
 use Rattle.walk.proofs.Stores.{Storing, stores-length, not-stored, stored}
-use Rattle.trace.specs.House.{flagsAt, speedAt, stop}
+use Rattle.house.specs.House.{flagsAt, speedAt, stop}
 use Rattle.row.specs.Row.{gearAt, clutchAt}
 use Rattle.phase.specs.Phase.{clutchOf, clutchStep, clutched}
 

@@ -8,7 +8,7 @@ use native.Mathlib.Omega.{arith}
 use lib.ListN.{length}
 use Rattle.walk.proofs.Walk.{scan-on, scan-out, scan-done, pairs-length}
 use Rattle.walk.proofs.Pairs.{pairs-at}
-use Rattle.trace.specs.House.{stopAt}
+use Rattle.house.specs.House.{stopAt}
 use Rattle.phase.specs.Phase.{stopEnd, stopGear, firstGear, firstRow, Carried}
 use Rattle.row.specs.Row.{gearAt}
 

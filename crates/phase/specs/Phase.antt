@@ -6,7 +6,7 @@ use mathlib.Core.List.{List}
 use lib.ListN.{set}
 use lib.Dec.{ltb}
 use Rattle.walk.specs.Walk.{inTurn, scan, pairs}
-use Rattle.trace.specs.House.{speedAt, flagsAt, stop, stopAt}
+use Rattle.house.specs.House.{speedAt, flagsAt, stop, stopAt}
 
 -- the end of the run of stop seconds that reaches second k, of n seconds; second k itself where it is no stop
 abbrev pub stopEnd : List ℕ → ℕ → ℕ → ℕ

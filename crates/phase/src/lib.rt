@@ -4,7 +4,7 @@ ghost use mathlib.Core.Path.{_≡_};
 ghost use mathlib.Core.List.{_++_};
 ghost use Prim.Native.Nat.{_*_, _≤_};
 ghost use lib.ListN.{length, getD, drop};
-ghost use Rattle.trace.specs.House.{Lasts};
+ghost use Rattle.house.specs.House.{Lasts};
 ghost use Rattle.row.specs.Row.{HaveSeconds};
 ghost use Rattle.phase.specs.Phase.{stopEnd, stopGear, gearBy, firstRow, clutchOf, clutched, Carried};
 
@@ -15,7 +15,7 @@ fn stop_end(trace: &[u8], n: usize, k: usize) -> usize
 {
     let mut i = k;
     while i < n {
-        if !trace::stop_at(trace, i) {
+        if !house::stop_at(trace, i) {
             return i;
         }
         i += 1;
@@ -44,7 +44,7 @@ fn stop_gear(left: usize) -> u8
 fn first_gear(flags: u8, own: u8, left: usize) -> u8
     ensures { λ r. ⌜ r ≡ gearBy flags own left ⌝ }
 {
-    if trace::is_stop(flags) {
+    if house::is_stop(flags) {
         stop_gear(left)
     } else {
         own
@@ -60,7 +60,7 @@ pub fn first_row(trace: &[u8], own: &[u8], row: &mut [u8], n: usize)
     let mut k = 0;
     while k < n {
         end = stop_end_from(trace, n, k, end);
-        row[2 * k] = first_gear(trace::flags_at(trace, k), own[k], end - k);
+        row[2 * k] = first_gear(house::flags_at(trace, k), own[k], end - k);
         row[2 * k + 1] = 0;
         k += 1;
     }
@@ -69,7 +69,7 @@ pub fn first_row(trace: &[u8], own: &[u8], row: &mut [u8], n: usize)
 pub fn clutch_of(flags: u8, speed: usize) -> u8
     ensures { λ r. ⌜ r ≡ clutchOf flags speed ⌝ }
 {
-    if trace::is_stop(flags) {
+    if house::is_stop(flags) {
         return 1;
     }
     if speed < 100 { 1 } else { 0 }
@@ -82,7 +82,7 @@ pub fn set_clutch(trace: &[u8], row: &mut [u8], n: usize)
 {
     let mut k = 0;
     while k < n {
-        row[2 * k + 1] = clutch_of(trace::flags_at(trace, k), trace::speed_at(trace, k));
+        row[2 * k + 1] = clutch_of(house::flags_at(trace, k), house::speed_at(trace, k));
         k += 1;
     }
 }

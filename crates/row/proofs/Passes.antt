@@ -10,7 +10,7 @@ use lib.Dec.{eqb}
 use lib.ListN.{length}
 use Rattle.walk.specs.Walk.{inTurn}
 use Rattle.walk.proofs.Stores.{Storing, stores-length, not-yet, stored}
-use Rattle.trace.specs.House.{flagsAt}
+use Rattle.house.specs.House.{flagsAt}
 use Rattle.row.specs.declared.Rule.{Rule}
 use Rattle.row.specs.Row.{gearAt}
 use Rattle.row.specs.Corrections.{uncapped, capped, capAfter, capStep, capRuns, ruled, ruleStep, passBy}

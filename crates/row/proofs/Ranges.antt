@@ -6,8 +6,8 @@ use Prim.Native.Nat.{ℕ, _≤_, min}
 use native.Mathlib.Omega.{arith}
 use borrow.Author.Tests.{eqb-false}
 use lib.Dec.{eqb}
-use Rattle.trace.specs.House.{stop, acceleration, deceleration, noFirst, noShift}
-use Rattle.trace.proofs.Phases.{acceleration-drives, deceleration-drives}
+use Rattle.house.specs.House.{stop, acceleration, deceleration, noFirst, noShift}
+use Rattle.house.proofs.Phases.{acceleration-drives, deceleration-drives}
 use Rattle.row.specs.declared.Rule.{Rule}
 use Rattle.row.specs.declared.Rule.the-variants.{NoFirst, NoShift, NoDrop, OneStep}
 use Rattle.row.specs.Corrections.{uncapped, capped, capAfter, notFirst, byRule, ruled}

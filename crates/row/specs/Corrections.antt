@@ -5,7 +5,7 @@ use mathlib.Core.Bool.{Bool, not, cond, _&&_}
 use mathlib.Core.List.{List}
 use lib.Dec.{eqb}
 use Rattle.walk.specs.Walk.{inTurn}
-use Rattle.trace.specs.House.{flagsAt, stop, acceleration, deceleration, noShift, noFirst}
+use Rattle.house.specs.House.{flagsAt, stop, acceleration, deceleration, noShift, noFirst}
 use Rattle.row.specs.declared.Rule.{Rule}
 use Rattle.row.specs.declared.Rule.the-variants.{NoFirst, NoShift, NoDrop, OneStep}
 use Rattle.row.specs.Row.{gearAt, setGear}

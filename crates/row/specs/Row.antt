@@ -2,7 +2,7 @@
 use Prim.Native.Nat.{ℕ, _+_, _*_, _≤_}
 use mathlib.Core.List.{List}
 use lib.ListN.{getD, set, length}
-use Rattle.trace.specs.House.{Lasts}
+use Rattle.house.specs.House.{Lasts}
 
 -- the gear of second k
 abbrev pub gearAt : List ℕ → ℕ → ℕ

@@ -8,7 +8,7 @@ ghost use Rattle.row.specs.Corrections.{capped, capAfter, capRuns, notFi
 pub fn capped(flags: u8, cap: u8, own: u8) -> u8
     ensures { λ r. ⌜ r ≡ capped flags cap own ⌝ }
 {
-    if trace::is_deceleration(flags) {
+    if house::is_deceleration(flags) {
         if own < cap { own } else { cap }
     } else {
         own
@@ -19,10 +19,10 @@ pub fn capped(flags: u8, cap: u8, own: u8) -> u8
 pub fn cap_after(flags: u8, cap: u8, own: u8) -> u8
     ensures { λ r. ⌜ r ≡ capAfter flags cap own ⌝ }
 {
-    if trace::is_acceleration(flags) {
+    if house::is_acceleration(flags) {
         return own;
     }
-    if trace::is_deceleration(flags) {
+    if house::is_deceleration(flags) {
         cap
     } else {
         255
@@ -37,7 +37,7 @@ pub fn cap_runs(trace: &[u8], row: &mut [u8], n: usize)
     let mut cap = 255;
     let mut k = 0;
     while k < n {
-        let flags = trace::flags_at(trace, k);
+        let flags = house::flags_at(trace, k);
         let own = row[2 * k];
         row[2 * k] = capped(flags, cap, own);
         cap = cap_after(flags, cap, own);
@@ -56,7 +56,7 @@ pub enum Rule {
 fn not_first(flags: u8, gear: u8) -> u8
     ensures { λ r. ⌜ r ≡ notFirst flags gear ⌝ }
 {
-    if trace::no_first(flags) & (gear == 1) {
+    if house::no_first(flags) & (gear == 1) {
         2
     } else {
         gear
@@ -85,17 +85,17 @@ fn one_step(before: u8, own: u8) -> u8
 pub fn ruled(rule: Rule, first: bool, former: u8, flags: u8, before: u8, own: u8) -> u8
     ensures { λ r. ⌜ r ≡ ruled rule first former flags before own ⌝ }
 {
-    if trace::is_stop(flags) {
+    if house::is_stop(flags) {
         return own;
     }
     match rule {
         Rule::NoFirst => not_first(flags, own),
-        Rule::NoShift => if trace::no_shift(flags) & !first & !trace::is_stop(former) {
+        Rule::NoShift => if house::no_shift(flags) & !first & !house::is_stop(former) {
             not_first(flags, before)
         } else {
             own
         },
-        Rule::NoDrop => if trace::is_acceleration(flags) & !first & trace::is_acceleration(former) {
+        Rule::NoDrop => if house::is_acceleration(flags) & !first & house::is_acceleration(former) {
             no_drop(before, own)
         } else {
             own
@@ -121,8 +121,8 @@ pub fn pass(rule: Rule, trace: &[u8], row: &mut [u8], n: usize)
         row[2 * k] = ruled(
             rule,
             k == 0,
-            trace::flags_at(trace, p),
-            trace::flags_at(trace, k),
+            house::flags_at(trace, p),
+            house::flags_at(trace, k),
             row[2 * p],
             row[2 * k],
         );

@@ -7,7 +7,7 @@ use native.Mathlib.Omega.{arith}
 use lib.Dec.{ltb}
 use lib.ListN.{length, length-set}
 use lib.Seq.{getD-set-other}
-use Rattle.trace.specs.House.{stopAt}
+use Rattle.house.specs.House.{stopAt}
 use Rattle.walk.proofs.Walk.{inTurn-keeps}
 use Rattle.row.specs.declared.Rule.{Rule}
 use Rattle.row.specs.declared.Rule.the-variants.{NoFirst, NoShift, NoDrop, OneStep}

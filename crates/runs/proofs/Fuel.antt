@@ -7,7 +7,7 @@ use native.Mathlib.Omega.{arith}
 use lib.Dec.{ltb}
 use borrow.Author.Tests.{le-ltb}
 use Rattle.walk.proofs.Ends.{search-ends}
-use Rattle.trace.specs.House.{stopAt}
+use Rattle.house.specs.House.{stopAt}
 use Rattle.row.specs.Row.{gearAt}
 use Rattle.runs.specs.Runs.{goesOn, takes, filled, endAt, runNext, rowAfter, nextAfter, smooth, smoothed}
 

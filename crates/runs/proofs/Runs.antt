@@ -5,7 +5,7 @@ use mathlib.Core.List.{List}
 use Prim.Native.Nat.{ℕ, zero, suc, _+_, _-_, _<_, _≤_}
 use native.Mathlib.Omega.{arith}
 use borrow.Author.Tests.{lt-ltb, le-ltb}
-use Rattle.trace.specs.House.{stopAt}
+use Rattle.house.specs.House.{stopAt}
 use Rattle.row.specs.Row.{gearAt}
 use Rattle.runs.specs.Runs.{endAt, takes, filled, runJudged, runNext, rowAfter, nextAfter, Turn, smooth}
 

@@ -11,7 +11,7 @@ use lib.Dec.{eqb, leb}
 use Rattle.refusal.proofs.Ranges.{both}
 use Rattle.walk.proofs.Walk.{scan-all}
 use Rattle.walk.proofs.Ends.{search-ends}
-use Rattle.trace.specs.House.{stopAt, noFirstAt}
+use Rattle.house.specs.House.{stopAt, noFirstAt}
 use Rattle.row.specs.Row.{gearAt}
 use Rattle.runs.specs.Runs.{goesOn, endAt, hasNoFirst, takes}
 

@@ -7,7 +7,7 @@ use mathlib.Core.Path.{_≡_}
 use mathlib.Core.List.{List}
 use lib.Dec.{eqb, leb, ltb}
 use Rattle.walk.specs.Walk.{inTurn, scan}
-use Rattle.trace.specs.House.{stopAt, noFirstAt}
+use Rattle.house.specs.House.{stopAt, noFirstAt}
 use Rattle.row.specs.Row.{gearAt, setGear}
 
 -- a run of the gear goes on at second k

@@ -5,7 +5,7 @@ ghost use mathlib.Core.Path.{_≡_};
 ghost use mathlib.Core.Bool.{true};
 ghost use Prim.Native.Nat.{_+_, _-_, _*_, _≤_, _<_};
 ghost use lib.ListN.{length};
-ghost use Rattle.trace.specs.House.{Lasts};
+ghost use Rattle.house.specs.House.{Lasts};
 ghost use Rattle.row.specs.Row.{HaveSeconds};
 ghost use Rattle.runs.specs.Runs.{runEnd, hasNoFirst, filled, takes, smoothed, Turn};
 ghost use Rattle.runs.specs.Corrected.{corrected};
@@ -18,7 +18,7 @@ fn run_end(trace: &[u8], row: &[u8], n: usize, gear: u8, from: usize) -> usize
 {
     let mut k = from;
     while k < n {
-        if !(!trace::stop_at(trace, k) & (row[2 * k] == gear)) {
+        if !(!house::stop_at(trace, k) & (row[2 * k] == gear)) {
             return k;
         }
         k += 1;
@@ -34,7 +34,7 @@ fn has_no_first(trace: &[u8], from: usize, to: usize) -> bool
 {
     let mut k = from;
     while k < to {
-        if trace::no_first(trace::flags_at(trace, k)) {
+        if house::no_first(house::flags_at(trace, k)) {
             return true;
         }
         k += 1;
@@ -69,8 +69,8 @@ fn takes(trace: &[u8], row: &[u8], n: usize, start: usize, end: usize) -> bool
     }
     let prior = start - 1;
     let barred = has_no_first(trace, start, end);
-    !trace::stop_at(trace, prior)
-        & !trace::stop_at(trace, end)
+    !house::stop_at(trace, prior)
+        & !house::stop_at(trace, end)
         & (end - start <= 4)
         & (row[2 * prior] == row[2 * end])
         & !((row[2 * end] == 1) & barred)
@@ -82,7 +82,7 @@ fn judge(trace: &[u8], row: &mut [u8], n: usize, start: usize) -> usize
     requires { ⌜ start < n ⌝ }
     ensures { λ r. ⌜ Turn (now (trace .entry)) (now (row .entry)) n start (now (row .exit)) r ⌝ }
 {
-    if trace::stop_at(trace, start) {
+    if house::stop_at(trace, start) {
         return start + 1;
     }
     let gear = row[2 * start];

@@ -12,8 +12,9 @@ use Rattle.refusal.specs.declared.Refusal.the-variants.{Header, Count, Length}
 use Rattle.refusal.specs.Judging.{checked}
 use Rattle.refusal.proofs.Ranges.{both}
 use Rattle.refusal.proofs.Judging.{checked-holds, refused-not}
-use Rattle.trace.specs.House.{headed, versionOf, readable, allows, countOf, speedAt, flagsAt, zeroAt}
-use Rattle.trace.specs.Judging.{countable, secondGood, judgeSeconds, judgeTrace, Sound}
+use Rattle.house.specs.House.{headed, versionOf, readable, allows, countOf, speedAt, flagsAt, zeroAt}
+use Rattle.trace.specs.Judging.{countable, judgeSeconds, judgeTrace, Sound}
+use Rattle.house.specs.House.{secondGood}
 use Rattle.walk.proofs.Walk.{all-good}
 
 -- the four checks, in order

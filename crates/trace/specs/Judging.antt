@@ -11,15 +11,11 @@ use Rattle.refusal.specs.declared.Judged.the-variants.{Accepted, Refused}
 use Rattle.refusal.specs.Ranges.{within}
 use Rattle.refusal.specs.Judging.{checked, andThen}
 use Rattle.walk.specs.Walk.{scan}
-use Rattle.trace.specs.House.{headed, versionOf, allows, countOf, speedAt, flagsAt, zeroAt}
+use Rattle.house.specs.House.{headed, countOf, speedAt, flagsAt, secondGood}
 
 -- 2: "count not 1 to 2,000"
 abbrev pub countable : ℕ → Bool
 countable n = within 1 2000 n
-
--- 4: "speed, flags or fourth byte wrong": the speed 0 to 2,000, the flags as the version allows them, the fourth byte zero
-abbrev pub secondGood : List ℕ → ℕ → Bool
-secondGood trace k = leb (speedAt trace k) 2000 && allows (versionOf trace) (flagsAt trace k) && eqb (zeroAt trace k) 0
 
 -- the first wrong one of the n seconds from k on. Its place counts from 1
 abbrev pub judgeSeconds : List ℕ → ℕ → ℕ → Judged

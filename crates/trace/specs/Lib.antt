@@ -1,3 +1,2 @@
-pub mod House
 pub mod Judging
 pub mod Choice

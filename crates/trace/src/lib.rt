@@ -1,129 +1,11 @@
-// A trace of the house (01, Trace): read, judged whole, and chosen from a pair. No other crate knows where its bytes stand. Seconds count from 0 in this
-// file, and from 1 where a refusal names one.
+// A trace of the house (01, Trace): judged whole, and chosen from a pair. Seconds count from 0 in this file, and from 1 where a refusal names one.
 use refusal::Judged;
 use refusal::Refusal;
 ghost use mathlib.Core.Path.{_≡_};
-ghost use Prim.Native.Nat.{_+_, _<_, _≤_};
-ghost use lib.ListN.{length};
-ghost use Rattle.trace.specs.House.{sixteenAt, versionOf, readable, allows, headed, countOf, Lasts};
-ghost use Rattle.trace.specs.House.{speedAt, flagsAt, stop, stopAt, acceleration, deceleration, noShift, noFirst};
-ghost use Rattle.trace.specs.Judging.{secondGood, judgeSeconds, judgeTrace, judgePair};
+ghost use Prim.Native.Nat.{_≤_};
+ghost use Rattle.house.specs.House.{Lasts};
+ghost use Rattle.trace.specs.Judging.{judgeSeconds, judgeTrace, judgePair};
 ghost use Rattle.trace.specs.Choice.{Chosen};
-
-// That a byte is below 256 is said here once, for all sums of bytes.
-fn wide(byte: u8) -> usize
-    ensures { λ r. ⌜ (r ≡ byte) × (byte < 256) ⌝ }
-{
-    byte as usize
-}
-
-// 16 bits, little-endian.
-fn sixteen(bytes: &[u8], at: usize) -> usize
-    requires { ⌜ at + 1 < length (now bytes) ⌝ }
-    ensures { λ r. ⌜ (r ≡ sixteenAt (now (bytes .entry)) at) × (r < 65536) ⌝ }
-{
-    wide(bytes[at]) + 256 * wide(bytes[at + 1])
-}
-
-// The count of seconds, of a trace that has a head.
-pub fn count_of(trace: &[u8]) -> usize
-    requires { ⌜ 8 ≤ length (now trace) ⌝ }
-    ensures { λ r. ⌜ (r ≡ countOf (now (trace .entry))) × (r < 65536) ⌝ }
-{
-    sixteen(trace, 6)
-}
-
-// The speed of second k, in 0.1 km/h.
-pub fn speed_at(trace: &[u8], k: usize) -> usize
-    requires { ⌜ Lasts (now trace) (k + 1) ⌝ }
-    ensures { λ r. ⌜ (r ≡ speedAt (now (trace .entry)) k) × (r < 65536) ⌝ }
-{
-    sixteen(trace, 4 * k + 8)
-}
-
-// The flags of second k, and what they say.
-pub fn flags_at(trace: &[u8], k: usize) -> u8
-    requires { ⌜ Lasts (now trace) (k + 1) ⌝ }
-    ensures { λ r. ⌜ r ≡ flagsAt (now (trace .entry)) k ⌝ }
-{
-    trace[4 * k + 10]
-}
-
-pub fn is_stop(flags: u8) -> bool
-    ensures { λ r. ⌜ r ≡ stop flags ⌝ }
-{
-    flags % 4 == 0
-}
-
-pub fn stop_at(trace: &[u8], k: usize) -> bool
-    requires { ⌜ Lasts (now trace) (k + 1) ⌝ }
-    ensures { λ r. ⌜ r ≡ stopAt (now (trace .entry)) k ⌝ }
-{
-    is_stop(flags_at(trace, k))
-}
-
-pub fn is_acceleration(flags: u8) -> bool
-    ensures { λ r. ⌜ r ≡ acceleration flags ⌝ }
-{
-    flags % 4 == 1
-}
-
-pub fn is_deceleration(flags: u8) -> bool
-    ensures { λ r. ⌜ r ≡ deceleration flags ⌝ }
-{
-    flags % 4 == 3
-}
-
-// The marks "no gear-shift" and "no 1. gear".
-pub fn no_shift(flags: u8) -> bool
-    ensures { λ r. ⌜ r ≡ noShift flags ⌝ }
-{
-    flags / 4 % 2 == 1
-}
-
-pub fn no_first(flags: u8) -> bool
-    ensures { λ r. ⌜ r ≡ noFirst flags ⌝ }
-{
-    flags / 8 % 2 == 1
-}
-
-// Of a trace that has a head.
-fn version_of(trace: &[u8]) -> usize
-    requires { ⌜ 8 ≤ length (now trace) ⌝ }
-    ensures { λ r. ⌜ r ≡ versionOf (now (trace .entry)) ⌝ }
-{
-    sixteen(trace, 4)
-}
-
-fn is_readable(version: usize) -> bool
-    ensures { λ r. ⌜ r ≡ readable version ⌝ }
-{
-    version == 1
-}
-
-fn is_allowed(version: usize, flags: u8) -> bool
-    ensures { λ r. ⌜ r ≡ allows version flags ⌝ }
-{
-    is_readable(version) & (flags <= 15)
-}
-
-// Of a trace with room for a head: the mark, the zero byte and the version.
-fn has_head(trace: &[u8]) -> bool
-    requires { ⌜ 8 ≤ length (now trace) ⌝ }
-    ensures { λ r. ⌜ r ≡ headed (now (trace .entry)) ⌝ }
-{
-    let known = is_readable(version_of(trace));
-    (trace[0] == b'W') & (trace[1] == b'T') & (trace[2] == b'R') & (trace[3] == 0) & known
-}
-
-fn is_good(trace: &[u8], k: usize) -> bool
-    requires { ⌜ Lasts (now trace) (k + 1) ⌝ }
-    ensures { λ r. ⌜ r ≡ secondGood (now (trace .entry)) k ⌝ }
-{
-    let speed = speed_at(trace, k);
-    let allowed = is_allowed(version_of(trace), flags_at(trace, k));
-    (speed <= 2000) & allowed & (trace[4 * k + 11] == 0)
-}
 
 // The first wrong one of the n seconds.
 fn judge_seconds(trace: &[u8], n: usize) -> Judged
@@ -132,7 +14,7 @@ fn judge_seconds(trace: &[u8], n: usize) -> Judged
 {
     let mut k = 0;
     while k < n {
-        if !is_good(trace, k) {
+        if !house::is_good(trace, k) {
             let second = (k + 1) as u32;
             return Judged::Refused(Refusal::Second { second });
         }
@@ -148,10 +30,10 @@ pub fn judge(trace: &[u8]) -> Judged
     if trace.len() < 8 {
         return Judged::Refused(Refusal::Header);
     }
-    if !has_head(trace) {
+    if !house::has_head(trace) {
         return Judged::Refused(Refusal::Header);
     }
-    let n = count_of(trace);
+    let n = house::count_of(trace);
     if !((1 <= n) & (n <= 2000)) {
         return Judged::Refused(Refusal::Count);
     }
@@ -173,8 +55,8 @@ pub fn judge_pair(normal: &[u8], reduced: &[u8]) -> Judged
     let Judged::Accepted = second else {
         return second;
     };
-    let n = count_of(normal);
-    let m = count_of(reduced);
+    let n = house::count_of(normal);
+    let m = house::count_of(reduced);
     refusal::check(n == m, Refusal::PairCounts, Judged::Accepted)
 }
 

@@ -8,7 +8,7 @@ use denote.Ref.{now}
 use lib.ListN.{length, take, length-take, length-drop}
 use borrow.Author.Needs.{needs}
 use Rattle.refusal.specs.declared.Judged.the-variants.{Accepted}
-use Rattle.trace.specs.House.{countOf}
+use Rattle.house.specs.House.{countOf}
 use Rattle.shift.specs.Speeds.{shiftOf}
 use Rattle.gear.specs.Sheet.{judgeSheet, ifAccepted, withRow}
 use Rattle.gear.proofs.Buffer.{part-whole, part-back}

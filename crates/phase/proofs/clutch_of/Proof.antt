@@ -2,7 +2,7 @@
 use mathlib.Core.Path.{_≡_, sym, _∙_}
 use mathlib.Core.Bool.{false}
 use borrow.Author.Tests.{lt-ltb, le-ltb}
-use Rattle.trace.specs.House.{stop}
+use Rattle.house.specs.House.{stop}
 use Rattle.phase.specs.Phase.{clutchOf}
 use Rattle.phase.proofs.clutch_of.Statement.{statement}
 use Rattle.phase.proofs.clutch_of.Tie as tie

@@ -7,7 +7,7 @@ use native.Mathlib.Omega.{arith}
 use lib.ListN.{length, getD, drop, length-set}
 use Rattle.walk.specs.Walk.{pairs}
 use Rattle.walk.proofs.Walk.{pairs-next}
-use Rattle.trace.specs.House.{flagsAt}
+use Rattle.house.specs.House.{flagsAt}
 use Rattle.phase.specs.Phase.{gearBy, firstGear, firstRow, Carried}
 use Rattle.phase.proofs.Stops.{carried-none, carried-next}
 use Rattle.phase.proofs.first_row.Statement.{statement}

@@ -1,7 +1,7 @@
 -- `row::cap_after` meets its contract. Assumes nothing.
 use mathlib.Core.Path.{_≡_, sym, _∙_}
 use mathlib.Core.Bool.{false}
-use Rattle.trace.specs.House.{acceleration}
+use Rattle.house.specs.House.{acceleration}
 use Rattle.row.specs.Corrections.{capAfter}
 use Rattle.row.proofs.cap_after.Statement.{statement}
 use Rattle.row.proofs.cap_after.Tie as tie

@@ -4,7 +4,7 @@ use Prim.Native.Nat.{ℕ, _-_, _*_, _≤_}
 use native.Mathlib.Omega.{arith}
 use lib.ListN.{length, set, length-set}
 use lib.Dec.{eqb}
-use Rattle.trace.specs.House.{flagsAt}
+use Rattle.house.specs.House.{flagsAt}
 use Rattle.walk.proofs.Walk.{inTurn-next}
 use Rattle.row.specs.Row.{gearAt}
 use Rattle.row.specs.Corrections.{ruled, ruleStep, passBy}

@@ -2,7 +2,7 @@
 use mathlib.Core.Path.{_≡_, sym, _∙_}
 use mathlib.Core.Bool.{false}
 use borrow.Author.Needs.{needs}
-use Rattle.trace.specs.House.{stop}
+use Rattle.house.specs.House.{stop}
 use Rattle.row.specs.Corrections.{ruled}
 use Rattle.row.proofs.ruled.Statement.{statement}
 use Rattle.row.proofs.ruled.Tie as tie

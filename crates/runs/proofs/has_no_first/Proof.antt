@@ -5,7 +5,7 @@ use mathlib.Core.Bool.{not}
 use Prim.Native.Nat.{_-_, _≤_}
 use native.Mathlib.Omega.{arith}
 use Rattle.walk.proofs.Walk.{scan-on, scan-out, scan-done}
-use Rattle.trace.specs.House.{noFirstAt}
+use Rattle.house.specs.House.{noFirstAt}
 use Rattle.runs.specs.Runs.{hasNoFirst}
 use Rattle.runs.proofs.has_no_first.Statement.{statement}
 use Rattle.runs.proofs.has_no_first.Tie as tie

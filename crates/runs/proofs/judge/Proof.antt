@@ -5,7 +5,7 @@ use Prim.Native.Nat.{_*_, _<_, _≤_}
 use native.Mathlib.Omega.{arith}
 use lib.ListN.{length}
 use borrow.Author.Needs.{needs}
-use Rattle.trace.specs.House.{stopAt}
+use Rattle.house.specs.House.{stopAt}
 use Rattle.runs.specs.Runs.{endAt, takes}
 use Rattle.runs.proofs.Runs.{turn-stop, turn-stays, turn-takes}
 use Rattle.runs.proofs.judge.Statement.{statement}

@@ -5,7 +5,7 @@ use native.Mathlib.Omega.{arith}
 use lib.Dec.{leb}
 use borrow.Author.Needs.{needs}
 use borrow.Author.Tests.{lt-leb, leb-true, eq-eqb, ne-eqb, not-true, not-false}
-use Rattle.trace.specs.House.{headed}
+use Rattle.house.specs.House.{headed}
 use Rattle.trace.specs.Judging.{countable, judgeTrace}
 use Rattle.refusal.proofs.Ranges.{both}
 use Rattle.trace.proofs.judge.Statement.{statement}

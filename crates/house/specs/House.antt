@@ -77,3 +77,7 @@ stopAt trace k = stop (flagsAt trace k)
 
 abbrev pub noFirstAt : List ℕ → ℕ → Bool
 noFirstAt trace k = noFirst (flagsAt trace k)
+
+-- 4: "speed, flags or fourth byte wrong": the speed 0 to 2,000, the flags as the version allows them, the fourth byte zero
+abbrev pub secondGood : List ℕ → ℕ → Bool
+secondGood trace k = leb (speedAt trace k) 2000 && allows (versionOf trace) (flagsAt trace k) && eqb (zeroAt trace k) 0

@@ -1,7 +1,7 @@
--- `trace::is_good` meets its contract: its one expression is the definition's. Assumes nothing.
+-- `house::is_good` meets its contract: its one expression is the definition's. Assumes nothing.
 use borrow.Author.Needs.{needs}
-use Rattle.trace.proofs.is_good.Statement.{statement}
-use Rattle.trace.proofs.is_good.Tie as tie
+use Rattle.house.proofs.is_good.Statement.{statement}
+use Rattle.house.proofs.is_good.Tie as tie
 
 pub is-good-spec : {M : Type 1} → statement M
 is-good-spec =

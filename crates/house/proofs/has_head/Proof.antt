@@ -1,8 +1,8 @@
--- `trace::has_head` meets its contract: its one expression is the definition's, past the room for a head. Assumes nothing.
+-- `house::has_head` meets its contract: its one expression is the definition's, past the room for a head. Assumes nothing.
 use borrow.Author.Needs.{needs}
 use borrow.Author.Tests.{le-leb}
-use Rattle.trace.proofs.has_head.Statement.{statement}
-use Rattle.trace.proofs.has_head.Tie as tie
+use Rattle.house.proofs.has_head.Statement.{statement}
+use Rattle.house.proofs.has_head.Tie as tie
 
 returns : tie.Need-returns
 returns c =

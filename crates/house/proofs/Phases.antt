@@ -5,7 +5,7 @@ use Prim.Native.Nat.{ℕ, _%_}
 use native.Mathlib.Omega.{arith}
 use lib.Dec.{eqb}
 use borrow.Author.Tests.{eqb-true, ne-eqb}
-use Rattle.trace.specs.House.{stop, acceleration, deceleration}
+use Rattle.house.specs.House.{stop, acceleration, deceleration}
 
 other : (flags phase : ℕ) → (phase ≡ 0 → ⊥) → eqb (flags % 4) phase ≡ true → stop flags ≡ false
 other flags phase some e =

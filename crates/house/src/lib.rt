@@ -1,0 +1,122 @@
+// The house file (01, Trace), byte by byte, and what its flags say. No other crate knows where a byte stands. Seconds count from 0 here.
+ghost use mathlib.Core.Path.{_≡_};
+ghost use Prim.Native.Nat.{_+_, _<_, _≤_};
+ghost use lib.ListN.{length};
+ghost use Rattle.house.specs.House.{sixteenAt, versionOf, readable, allows, headed, countOf, Lasts};
+ghost use Rattle.house.specs.House.{speedAt, flagsAt, stop, stopAt, acceleration, deceleration, noShift, noFirst, secondGood};
+
+// That a byte is below 256 is said here once, for all sums of bytes.
+fn wide(byte: u8) -> usize
+    ensures { λ r. ⌜ (r ≡ byte) × (byte < 256) ⌝ }
+{
+    byte as usize
+}
+
+// 16 bits, little-endian.
+fn sixteen(bytes: &[u8], at: usize) -> usize
+    requires { ⌜ at + 1 < length (now bytes) ⌝ }
+    ensures { λ r. ⌜ (r ≡ sixteenAt (now (bytes .entry)) at) × (r < 65536) ⌝ }
+{
+    wide(bytes[at]) + 256 * wide(bytes[at + 1])
+}
+
+// The count of seconds, of a trace that has a head.
+pub fn count_of(trace: &[u8]) -> usize
+    requires { ⌜ 8 ≤ length (now trace) ⌝ }
+    ensures { λ r. ⌜ (r ≡ countOf (now (trace .entry))) × (r < 65536) ⌝ }
+{
+    sixteen(trace, 6)
+}
+
+// The speed of second k, in 0.1 km/h.
+pub fn speed_at(trace: &[u8], k: usize) -> usize
+    requires { ⌜ Lasts (now trace) (k + 1) ⌝ }
+    ensures { λ r. ⌜ (r ≡ speedAt (now (trace .entry)) k) × (r < 65536) ⌝ }
+{
+    sixteen(trace, 4 * k + 8)
+}
+
+// The flags of second k, and what they say.
+pub fn flags_at(trace: &[u8], k: usize) -> u8
+    requires { ⌜ Lasts (now trace) (k + 1) ⌝ }
+    ensures { λ r. ⌜ r ≡ flagsAt (now (trace .entry)) k ⌝ }
+{
+    trace[4 * k + 10]
+}
+
+pub fn is_stop(flags: u8) -> bool
+    ensures { λ r. ⌜ r ≡ stop flags ⌝ }
+{
+    flags % 4 == 0
+}
+
+pub fn stop_at(trace: &[u8], k: usize) -> bool
+    requires { ⌜ Lasts (now trace) (k + 1) ⌝ }
+    ensures { λ r. ⌜ r ≡ stopAt (now (trace .entry)) k ⌝ }
+{
+    is_stop(flags_at(trace, k))
+}
+
+pub fn is_acceleration(flags: u8) -> bool
+    ensures { λ r. ⌜ r ≡ acceleration flags ⌝ }
+{
+    flags % 4 == 1
+}
+
+pub fn is_deceleration(flags: u8) -> bool
+    ensures { λ r. ⌜ r ≡ deceleration flags ⌝ }
+{
+    flags % 4 == 3
+}
+
+// The marks "no gear-shift" and "no 1. gear".
+pub fn no_shift(flags: u8) -> bool
+    ensures { λ r. ⌜ r ≡ noShift flags ⌝ }
+{
+    flags / 4 % 2 == 1
+}
+
+pub fn no_first(flags: u8) -> bool
+    ensures { λ r. ⌜ r ≡ noFirst flags ⌝ }
+{
+    flags / 8 % 2 == 1
+}
+
+// Of a trace that has a head.
+fn version_of(trace: &[u8]) -> usize
+    requires { ⌜ 8 ≤ length (now trace) ⌝ }
+    ensures { λ r. ⌜ r ≡ versionOf (now (trace .entry)) ⌝ }
+{
+    sixteen(trace, 4)
+}
+
+fn is_readable(version: usize) -> bool
+    ensures { λ r. ⌜ r ≡ readable version ⌝ }
+{
+    version == 1
+}
+
+fn is_allowed(version: usize, flags: u8) -> bool
+    ensures { λ r. ⌜ r ≡ allows version flags ⌝ }
+{
+    is_readable(version) & (flags <= 15)
+}
+
+// Of a trace with room for a head: the mark, the zero byte and the version.
+pub fn has_head(trace: &[u8]) -> bool
+    requires { ⌜ 8 ≤ length (now trace) ⌝ }
+    ensures { λ r. ⌜ r ≡ headed (now (trace .entry)) ⌝ }
+{
+    let known = is_readable(version_of(trace));
+    (trace[0] == b'W') & (trace[1] == b'T') & (trace[2] == b'R') & (trace[3] == 0) & known
+}
+
+// What refusal 4 asks of second k.
+pub fn is_good(trace: &[u8], k: usize) -> bool
+    requires { ⌜ Lasts (now trace) (k + 1) ⌝ }
+    ensures { λ r. ⌜ r ≡ secondGood (now (trace .entry)) k ⌝ }
+{
+    let speed = speed_at(trace, k);
+    let allowed = is_allowed(version_of(trace), flags_at(trace, k));
+    (speed <= 2000) & allowed & (trace[4 * k + 11] == 0)
+}
