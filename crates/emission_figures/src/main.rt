@@ -1,21 +1,25 @@
-// The emission sheet as the compiled code gives it: 01's known figures that are run, whole tests with every figure of their result, and each
-// refusal of a bag sheet.
-mod known;
+// The emission sheet as the compiled code gives it, for the cases of the file `stdin`: 01's known figures that are run, whole tests with every figure of
+// their result, and each refusal of a bag sheet.
 mod output;
-mod refusals;
-mod sheets;
-mod tests;
+mod sheet;
+
+use libc::STDIN_FILENO;
+
+fn lines(text: &[u8]) {
+    let mut lasting = [0; 802];
+    let mut own = [0; 802];
+    let mut at = 0;
+    while at < text.len() {
+        let line = cases::read_line(text, at, &mut lasting, &mut own);
+        if 0 < line.said {
+            output::show(own);
+        }
+        at = line.end;
+    }
+}
 
 fn main() {
-    known::readings();
-    known::dilution();
-    tests::all();
-    refusals::class();
-    refusals::test_values();
-    refusals::part_values();
-    refusals::order_of_values();
-    refusals::no_float();
-    refusals::floats();
-    refusals::order_of_readings();
-    refusals::late();
+    let mut bytes = io::large_buffer();
+    let n = io::read_full(STDIN_FILENO, &mut bytes);
+    lines(&bytes[..n]);
 }

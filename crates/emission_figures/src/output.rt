@@ -1,39 +1,43 @@
-// What is printed of an answer.
+// What is printed of a case.
+use super::sheet;
+use arith::Ends;
 use bag::BagSheet;
 use emission::Answer;
 use emission::TestResult;
 use emission::Verdicts;
 use part::Gases;
 use part::PartResult;
-use print::end_line;
-use print::number;
+use print::filled;
 use print::text;
 use reading::Message;
 use reading::Worth;
 use refusal::Refusal;
 use weigh::Verdict;
 
-fn gases(g: Gases) {
-    text(b" HC");
-    print::ends(g.hc);
-    text(b" CO");
-    print::ends(g.co);
-    text(b" NOx");
-    print::ends(g.nox);
-    text(b" CO2");
-    print::ends(g.co2);
-    end_line();
+fn gases(form: &[u8], g: Gases) {
+    filled(
+        form,
+        &[
+            g.hc.lower,
+            g.hc.upper,
+            g.co.lower,
+            g.co.upper,
+            g.nox.lower,
+            g.nox.upper,
+            g.co2.lower,
+            g.co2.upper,
+        ],
+    );
 }
 
-fn part_result(number: u64, p: PartResult) {
-    text(b"part");
-    print::number(number);
-    text(b" volume");
-    print::ends(p.volume);
-    text(b"\n mass");
-    gases(p.mass);
-    text(b" rate");
-    gases(p.rate);
+fn volume(part: i64, e: Ends) {
+    filled(b"\npart # volume # #", &[part, e.lower, e.upper]);
+}
+
+fn part_result(part: i64, p: PartResult) {
+    volume(part, p.volume);
+    gases(b"\n mass HC # # CO # # NOx # # CO2 # #", p.mass);
+    gases(b"\n rate HC # # CO # # NOx # # CO2 # #", p.rate);
 }
 
 fn verdict(v: Verdict) {
@@ -55,68 +59,81 @@ fn verdicts(v: Verdicts) {
     let co = v.co;
     let nox = v.nox;
     let co2 = v.co2;
-    text(b"verdicts");
     verdict(hc);
     verdict(co);
     verdict(nox);
     verdict(co2);
-    end_line();
+    text(b"\nfuel");
+}
+
+fn ends(e: Ends) {
+    filled(b" # #\n", &[e.lower, e.upper]);
 }
 
 fn result(r: TestResult) {
     let parts = r.parts;
-    end_line();
     part_result(1, parts.first);
     part_result(2, parts.second);
     part_result(3, parts.third);
-    text(b"weighted");
-    gases(r.weighted);
+    gases(
+        b"\nweighted HC # # CO # # NOx # # CO2 # #\nverdicts",
+        r.weighted,
+    );
     verdicts(r.verdicts);
-    text(b"fuel");
-    print::ends(r.fuel);
-    end_line();
+    ends(r.fuel);
+}
+
+fn taken() {
+    text(b" taken\n");
 }
 
 fn refused(r: Refusal) {
     let place = refusal::place_of(r);
-    text(b" refusal");
-    number(refusal::number_of(r) as u64);
-    text(b" at");
-    number(place.at as u64);
-    number(place.within as u64);
-    number(place.side as u64);
-    end_line();
+    let number = refusal::number_of(r);
+    filled(
+        b" refusal # at # # #\n",
+        &[
+            number as i64,
+            place.at as i64,
+            place.within as i64,
+            place.side as i64,
+        ],
+    );
 }
 
-// The whole answer.
-pub fn answer(s: BagSheet) {
+// The result where the sheet is taken, or only that it is.
+fn answer(s: BagSheet, whole: bool) {
     let answer = emission::test(s);
     match answer {
-        Answer::Result(r) => result(r),
-        Answer::Refused(r) => refused(r),
-    }
-}
-
-// Whether a sheet is taken, or its refusal.
-pub fn outcome(s: BagSheet) {
-    let answer = emission::test(s);
-    match answer {
-        Answer::Result(_) => {
-            text(b" taken\n");
+        Answer::Result(r) => {
+            if whole {
+                result(r);
+            } else {
+                taken();
+            }
         }
         Answer::Refused(r) => refused(r),
     }
 }
 
-pub fn units(message: Message) {
+fn unusable() {
+    text(b" unusable\n");
+}
+
+fn units(message: Message) {
     let reading = reading::convert(message);
     match reading {
-        Worth::Units(ends) => {
-            print::ends(ends);
-        }
-        Worth::Unusable => {
-            text(b" unusable");
-        }
+        Worth::Units(e) => ends(e),
+        Worth::Unusable => unusable(),
     }
-    end_line();
+}
+
+// Place 3 says what is asked.
+pub fn show(n: [u64; 802]) {
+    let asked = cases::number_at(n, 0, 3);
+    if asked == 2 {
+        units(sheet::message_at(n, 1, 2, 1));
+    } else {
+        answer(sheet::sheet_in(n), asked == 1);
+    }
 }
