@@ -15,7 +15,7 @@ use Rattle.arith.proofs.Parts.{zs, sub-parts}
 use Rattle.arith.proofs.Ring.{mul-add, mul-sub, mul-neg, one-mul, mul-one, mul-mono, mul-mono-<, sub-mono, products, <-≤}
 use Rattle.vehicle.specs.declared.VehicleSheet.{VehicleSheet}
 use Rattle.vehicle.specs.Sheet.{ndvAt, Sound}
-use Rattle.shift.specs.Speeds.{powerOf, sideUnit, sideOf, tenth, firstSide, higherSide, leftOf}
+use Rattle.shift.specs.Speeds.{powerOf, sideUnit, sideOf, share, tenth, firstSide, higherSide, leftOf}
 use Rattle.shift.specs.Exact.{aboveIdle, exactFirst, exactHigher, exactUpshift, exactSpeed, fromUnits, less, Compared}
 use Rattle.shift.proofs.Sides.{exponent}
 use Rattle.shift.proofs.ExactTerms.{exponential-ordered}
@@ -63,23 +63,23 @@ module _ (k : ℕ) {a : Ends} (h : a .lower ≤ℤ a .upper) where
 
 -- ---- the two sides, from an end of e. They are 10,000 x 2^32 times the engine speeds in the brackets
 higherAt : ℕ → ℕ → ℤ → ℤ
-higherAt w n end = pos w *ℤ (pos 5753 *ℤ end) +ℤ sideUnit *ℤ pos n
+higherAt w n end = pos w *ℤ (pos share *ℤ end) +ℤ sideUnit *ℤ pos n
 
 firstAt : ℕ → ℕ → ℤ → ℤ
-firstAt w n end = pos w *ℤ (pos 5753 *ℤ end -ℤ tenth .lower) +ℤ sideUnit *ℤ pos n
+firstAt w n end = pos w *ℤ (pos share *ℤ end -ℤ tenth .lower) +ℤ sideUnit *ℤ pos n
 
 module _ {e : Ends} (h : e .lower ≤ℤ e .upper) (w n : ℕ) where
-  higher-is : sideOf (scaledBy (pos 5753) e) w n ≡ record { lower = higherAt w n (e .lower); upper = higherAt w n (e .upper) }
+  higher-is : sideOf (scaledBy (pos share) e) w n ≡ record { lower = higherAt w n (e .lower); upper = higherAt w n (e .upper) }
   unfolding sideOf sumOf exactly higherAt
   higher-is =
-      ap (λ (part : Ends). sideOf part w n) (scaled-is 5753 h)
-      ∙ ap (λ (rise : Ends). sumOf rise (exactly (sideUnit *ℤ pos n))) (scaled-is w (times-ordered 5753 h))
+      ap (λ (part : Ends). sideOf part w n) (scaled-is share h)
+      ∙ ap (λ (rise : Ends). sumOf rise (exactly (sideUnit *ℤ pos n))) (scaled-is w (times-ordered share h))
 
-  first-is : sideOf (differenceOf (scaledBy (pos 5753) e) tenth) w n ≡ record { lower = firstAt w n (e .lower); upper = firstAt w n (e .upper) }
+  first-is : sideOf (differenceOf (scaledBy (pos share) e) tenth) w n ≡ record { lower = firstAt w n (e .lower); upper = firstAt w n (e .upper) }
   unfolding sideOf sumOf differenceOf exactly firstAt
   first-is =
-      ap (λ (part : Ends). sideOf (differenceOf part tenth) w n) (scaled-is 5753 h)
-      ∙ ap (λ (rise : Ends). sumOf rise (exactly (sideUnit *ℤ pos n))) (scaled-is w (sub-mono (times-ordered 5753 h) (≤ℤ-refl (tenth .lower))))
+      ap (λ (part : Ends). sideOf (differenceOf part tenth) w n) (scaled-is share h)
+      ∙ ap (λ (rise : Ends). sumOf rise (exactly (sideUnit *ℤ pos n))) (scaled-is w (sub-mono (times-ordered share h) (≤ℤ-refl (tenth .lower))))
 
 sub-mul : (a b c : ℤ) → (a -ℤ b) *ℤ c ≡ a *ℤ c -ℤ b *ℤ c
 sub-mul a b c = *ℤ-comm (a -ℤ b) c ∙ mul-sub c a b ∙ (λ i. *ℤ-comm c a i -ℤ *ℤ-comm c b i)
@@ -134,7 +134,7 @@ module _ {v : VehicleSheet} (sound : Sound v) where
       let w = v .rated - v .idle in
       let n = v .idle in
       subst (λ (q : Fraction). Tied (higherAt w n end) (decimal (pos 5753) 10000 *ᶠ fromUnits end *ᶠ q +ᶠ whole (pos n))) (sym (above-idle sound))
-      (record { k = 1000; some = omega arith; den = refl; num = higher-value (pos 10) (pos 100) sideUnit (pos 5753) (pos w) (pos n) end })
+      (record { k = 1000; some = omega arith; den = refl; num = higher-value (pos 10) (pos 100) sideUnit (pos share) (pos w) (pos n) end })
 
   first-tied : (end : ℤ) → Tied (firstAt (v .rated - v .idle) (v .idle) end) (exactFirst v (fromUnits end))
   unfolding exactFirst firstAt exactly
@@ -143,7 +143,7 @@ module _ {v : VehicleSheet} (sound : Sound v) where
       let n = v .idle in
       let part = decimal (pos 5753) 10000 *ᶠ fromUnits end -ᶠ decimal (pos 1) 10 in
       subst (λ (q : Fraction). Tied (firstAt w n end) (part *ᶠ q +ᶠ whole (pos n))) (sym (above-idle sound))
-      (record { k = 10000; some = omega arith; den = refl; num = first-value (pos 10) (pos 100) (tenth .lower) (pos 5753) (pos w) (pos n) end })
+      (record { k = 10000; some = omega arith; den = refl; num = first-value (pos 10) (pos 100) (tenth .lower) (pos share) (pos w) (pos n) end })
 
   power-ordered : powerOf v .lower ≤ℤ powerOf v .upper
   power-ordered = exponential-ordered (19 * v .power) (100 * (v .mass + 75)) (exponent sound .some)

@@ -14,8 +14,11 @@ use Rattle.arith.specs.Fraction.{Fraction, whole, _*ᶠ_, _/ᶠ_, Between}
 use Rattle.arith.proofs.Parts.{zs, add-parts}
 use Rattle.arith.proofs.Ring.{add-mono, sub-mono, mul-cancel, ≤-trans}
 use Rattle.arith.proofs.Enclosure.{exactly-holds, same-value, scaled-holds, divided-holds, ordered}
-use Rattle.shift.specs.Exponential.{nextTerm, termOf, withTerm, sumTo, exponentialOf}
-use Rattle.shift.specs.Exact.{factorial, exactTerm, unitsIn}
+use Rattle.shift.specs.Exponential.{nextTerm, termOf, withTerm, sumTo, exponentialOf, factorial, exactTerm}
+
+-- 2^32
+abbrev pub unit : Fraction
+unit = whole (pos (2 ^ 32))
 
 factorial-some : (k : ℕ) → 0 < factorial k
 unfolding factorial
@@ -43,14 +46,14 @@ module _ (over under : ℕ) (some : 0 < under) where
   next-holds k h = divided-holds (scaled-holds h (pos over)) (pos (under * suc k)) (omega (zs, mul-le-mul-right (suc k) some))
 
   -- a(k) ≤ 2^32 x^k / k! ≤ b(k)
-  pub term-holds : (k : ℕ) → Between (termOf over under k) (unitsIn (exactTerm over under k))
+  pub term-holds : (k : ℕ) → Between (termOf over under k) (unit *ᶠ exactTerm over under k)
   unfolding termOf exactTerm factorial
   term-holds zero = rw (pow-zero over, pow-zero under) (exactly-holds (pos 4294967296))
   term-holds (suc k) =
       let positive : pos 0 <ℤ pos (1 * den under (suc k)) = omega (zs, den-some some (suc k)) in
       let same : 1 * den under (suc k) * (over * (4294967296 * over ^ k) * 1) ≡ 1 * (1 * den under k) * (under * suc k) * (4294967296 * over ^ suc k) =
       rw (pow-suc under k, pow-suc over k) (omega arith) in
-      same-value (next-holds k (term-holds k)) (unitsIn (exactTerm over under (suc k))) positive (ap pos same)
+      same-value (next-holds k (term-holds k)) (unit *ᶠ exactTerm over under (suc k)) positive (ap pos same)
 
   term-some : (k : ℕ) → pos 0 ≤ℤ termOf over under k .upper
   unfolding exactTerm

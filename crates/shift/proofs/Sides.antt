@@ -14,7 +14,7 @@ use Rattle.arith.proofs.Size.{exactly-size, scaled-size, difference-size, wider
 use Rattle.vehicle.specs.declared.VehicleSheet.{VehicleSheet}
 use Rattle.vehicle.specs.Sheet.{Sound}
 use Rattle.shift.specs.Exponential.{Exponent}
-use Rattle.shift.specs.Speeds.{powerOf, sideUnit, higherPart, tenth, firstPart, shiftOf, InRange, ShiftRanges}
+use Rattle.shift.specs.Speeds.{powerOf, sideUnit, share, higherPart, tenth, firstPart, shiftOf, InRange, ShiftRanges}
 use Rattle.shift.specs.Fitting.{SideFits}
 use Rattle.shift.proofs.Terms.{exponential-size}
 
@@ -41,16 +41,16 @@ module _ {v : VehicleSheet} (s : Sound v) where
       let m = s .ranged .mass in
       record { some = omega (arith, m); small = omega (arith, m); mild = omega (arith, s .mild) }
 
-  pub part-fits : ScaledFits (pos 5753) (powerOf v)
-  part-fits = scaled-fits (pos 5753) (lit< tt) (le-refl 5753) (exponential-size exponent)
+  pub part-fits : ScaledFits (pos share) (powerOf v)
+  part-fits = scaled-fits (pos share) (lit< tt) (le-refl share) (exponential-size exponent)
 
-  part-size : Sized 115060000000000 (higherPart v)
-  part-size = scaled-size (pos 5753) (le-refl 5753) (exponential-size exponent)
+  part-size : Sized (share * 20000000000) (higherPart v)
+  part-size = scaled-size (pos share) (le-refl share) (exponential-size exponent)
 
   pub less-fits : DifferenceFits (higherPart v) tenth
   less-fits = difference-fits (lit< tt) part-size tenth-size
 
-  less-size : Sized (115060000000000 + 4300000000000) (firstPart v)
+  less-size : Sized (share * 20000000000 + 4300000000000) (firstPart v)
   less-size = difference-size part-size tenth-size
 
   sided : {m : ℕ} {part : Ends} → m ≤ 120000000000000 → Sized m part → SideFits part (v .rated - v .idle) (v .idle)

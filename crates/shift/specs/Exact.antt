@@ -1,8 +1,8 @@
--- What the ends stand for, as fractions: the terms of e to the power -x, where x is over / under; and the upshift speeds in km/h as 01 writes them,
--- from any e. Gears count from 0 here.
+-- 01, Shift speeds: the upshift speeds in km/h as they are written there, as fractions, from any e; and what a comparison in whole numbers says of them.
+-- Gears count from 0 here.
 use mathlib.Core.Path.{_≡_}
 use mathlib.Core.Bool.{Bool, cond}
-use Prim.Native.Nat.{ℕ, zero, suc, _*_, _^_}
+use Prim.Native.Nat.{ℕ, _^_}
 use lib.Dec.{eqb}
 use lib.IntN.{ℤ, pos, _*ℤ_}
 use lib.Signed.{_<ℤ_, ltZ}
@@ -11,18 +11,7 @@ use Rattle.vehicle.specs.declared.VehicleSheet.{VehicleSheet}
 use Rattle.vehicle.specs.Sheet.{ndvAt}
 use Rattle.shift.specs.Speeds.{powerOf, firstSide, higherSide, sideAt, below, above}
 
-unfoldable pub factorial : ℕ → ℕ
-factorial zero = 1
-factorial (suc k) = suc k * factorial k
-
--- x^k / k!
-unfoldable pub exactTerm : ℕ → ℕ → ℕ → Fraction
-exactTerm over under k = record { num = pos (over ^ k); den = pos (under ^ k * factorial k) }
-
--- an end of e or of a term is "in units of 1/2^32"
-abbrev pub unitsIn : Fraction → Fraction
-unitsIn q = whole (pos (2 ^ 32)) *ᶠ q
-
+-- an end of e, which is "in units of 1/2^32"
 abbrev pub fromUnits : ℤ → Fraction
 fromUnits end = decimal end (2 ^ 32)
 

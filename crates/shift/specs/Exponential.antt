@@ -4,6 +4,7 @@ use Prim.Native.Nat.{ℕ, zero, suc, _*_, _%_, _^_, _≤_, _<_}
 use lib.Dec.{eqb}
 use lib.IntN.{pos, _*ℤ_}
 use Rattle.arith.specs.declared.Ends.{Ends}
+use Rattle.arith.specs.Fraction.{Fraction}
 use Rattle.arith.specs.Stages.{exactly, sumOf, differenceOf, scaledBy, dividedBy}
 
 -- "a(k) = a(k-1) x 19 P / (100 (m + 75) k) rounded down, b(k) the same from b(k-1) rounded up": a is a term's lower end, b its upper
@@ -33,3 +34,12 @@ pub record Exponent (over under : ℕ) : Type 0 where
   pub some : 0 < under
   pub small : under ≤ 107500
   pub mild : 2 * over ≤ 3 * under
+
+-- ---- what the ends stand for
+unfoldable pub factorial : ℕ → ℕ
+factorial zero = 1
+factorial (suc k) = suc k * factorial k
+
+-- x^k / k!: a(k) and b(k) are the ends of 2^32 times that
+unfoldable pub exactTerm : ℕ → ℕ → ℕ → Fraction
+exactTerm over under k = record { num = pos (over ^ k); den = pos (under ^ k * factorial k) }

@@ -26,9 +26,13 @@ sideUnit = pos (10000 * 2 ^ 32)
 unfoldable pub sideOf : Ends → ℕ → ℕ → Ends
 sideOf part span idle = sumOf (scaledBy (pos span) part) (exactly (sideUnit *ℤ pos idle))
 
+-- "0.5753", in 1/10,000
+abbrev pub share : ℕ
+share = 5753
+
 -- "0.5753 e"
 abbrev pub higherPart : VehicleSheet → Ends
-higherPart v = scaledBy (pos 5753) (powerOf v)
+higherPart v = scaledBy (pos share) (powerOf v)
 
 -- "0.5753 e - 0.1"
 abbrev pub tenth : Ends
