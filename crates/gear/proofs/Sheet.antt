@@ -51,13 +51,10 @@ sheet-ready s =
 
 module _ (trace : List ℕ) (v : VehicleSheet) (buffer : List ℕ) (start : ℕ) where
   -- a refusal of 1 to 8 is the answer; past them the comparisons decide
-  pub answer-refused : {refusal : Refusal} → judgeSheet trace v (length buffer) start ≡ Refused refusal → gearAnswer trace v (length buffer) start ≡ Refused refusal
+  pub answer-by : {j : Judged} → judgeSheet trace v (length buffer) start ≡ j
+      → gearAnswer trace v (length buffer) start ≡ andThen j (judgeClose (shiftOf v) trace 0 (countOf trace))
   unfolding gearAnswer
-  answer-refused e = ap (λ (j : Judged). andThen j (judgeClose (shiftOf v) trace 0 (countOf trace))) e
-
-  pub answer-close : judgeSheet trace v (length buffer) start ≡ Accepted → gearAnswer trace v (length buffer) start ≡ judgeClose (shiftOf v) trace 0 (countOf trace)
-  unfolding gearAnswer
-  answer-close e = ap (λ (j : Judged). andThen j (judgeClose (shiftOf v) trace 0 (countOf trace))) e
+  answer-by e = ap (λ (j : Judged). andThen j (judgeClose (shiftOf v) trace 0 (countOf trace))) e
 
   -- the part comes back as it went, or with the row at its front
   back-by : (j : Judged) (new : List ℕ) → take start buffer ++ ifAccepted j new (drop start buffer) ≡ ifAccepted j (take start buffer ++ new) buffer
@@ -68,7 +65,8 @@ module _ (trace : List ℕ) (v : VehicleSheet) (buffer : List ℕ) (start : ℕ)
   unfolding gearBuffer
   buffer-refused e = sym (ap (λ (j : Judged). ifAccepted j (take start buffer ++ withRow (shiftOf v) trace (countOf trace) (drop start buffer)) buffer) e)
 
-  pub buffer-back : {j : Judged} → j ≡ gearAnswer trace v (length buffer) start → take start buffer ++ ifAccepted j (withRow (shiftOf v) trace (countOf trace) (drop start buffer)) (drop start buffer) ≡ gearBuffer trace v buffer start
+  pub buffer-back : {j : Judged} → j ≡ gearAnswer trace v (length buffer) start
+      → take start buffer ++ ifAccepted j (withRow (shiftOf v) trace (countOf trace) (drop start buffer)) (drop start buffer) ≡ gearBuffer trace v buffer start
   unfolding gearBuffer
   buffer-back {j} e =
       let new = withRow (shiftOf v) trace (countOf trace) (drop start buffer) in

@@ -69,7 +69,8 @@ fn into_part(trace: &[u8], own: &[u8], part: &mut [u8], n: usize)
 // Refusal 9, or the row at the front of the part.
 fn fill(s: Shift, trace: &[u8], part: &mut [u8], n: usize) -> Judged
     requires { ⌜ (Ready s (now trace) n) × (2 * n ≤ length (now part)) ⌝ }
-    ensures { λ r. ⌜ (r ≡ judgeClose s (now (trace .entry)) 0 n) × (now (part .exit) ≡ ifAccepted r (withRow s (now (trace .entry)) n (now (part .entry))) (now (part .entry))) ⌝ }
+    ensures { λ r. ⌜ (r ≡ judgeClose s (now (trace .entry)) 0 n)
+        × (now (part .exit) ≡ ifAccepted r (withRow s (now (trace .entry)) n (now (part .entry))) (now (part .entry))) ⌝ }
 {
     let mut own = [0u8; 2000];
     let close = own_gears(s, trace, &mut own, n);
@@ -102,7 +103,8 @@ fn judge_sheet(trace: &[u8], v: VehicleSheet, room: usize, start: usize) -> Judg
 // The gears and the clutch of a trace's seconds, two bytes a second, into the buffer from the start on; or the first refusal, 1 to 9, and the
 // buffer as it was.
 pub fn write_gears(trace: &[u8], v: VehicleSheet, buffer: &mut [u8], start: usize) -> Judged
-    ensures { λ r. ⌜ (r ≡ gearAnswer (now (trace .entry)) v (length (now (buffer .entry))) start) × (now (buffer .exit) ≡ gearBuffer (now (trace .entry)) v (now (buffer .entry)) start) ⌝ }
+    ensures { λ r. ⌜ (r ≡ gearAnswer (now (trace .entry)) v (length (now (buffer .entry))) start)
+        × (now (buffer .exit) ≡ gearBuffer (now (trace .entry)) v (now (buffer .entry)) start) ⌝ }
 {
     let judged = judge_sheet(trace, v, buffer.len(), start);
     let Judged::Accepted = judged else {

@@ -27,7 +27,8 @@ module _ {A : Type 0} (f : List ℕ → A) (keeps : (row : List ℕ) (k gear : �
   turn-keeps row start =
       let end = endAt trace row n start in
       let gear = gearAt row end in
-      let fills : f (filled row start gear (end - start)) ≡ f row = inTurn-keeps f (λ state k. setGear state (start + k) gear) (λ state k. keeps state (start + k) gear) row (end - start) in
+      let fills : f (filled row start gear (end - start)) ≡ f row =
+      inTurn-keeps f (λ state k. setGear state (start + k) gear) (λ state k. keeps state (start + k) gear) row (end - start) in
       cond-keeps (stopAt trace start) row _ (f row) refl
       (cond-keeps (takes trace row n start end) (filled row start gear (end - start)) row (f row) fills refl)
 
@@ -47,7 +48,7 @@ module _ {A : Type 0} (f : List ℕ → A) (keeps : (row : List ℕ) (k gear : �
   pass-keeps : (rule : Rule) (row : List ℕ) → f (passBy rule trace row n) ≡ f row
   pass-keeps rule row = inTurn-keeps f (ruleStep rule trace) (λ state k. keeps state k _) row n
 
-  pub corrected-keeps : (row : List ℕ) → f (corrected trace row n) ≡ f row
+  corrected-keeps : (row : List ℕ) → f (corrected trace row n) ≡ f row
   corrected-keeps row =
       smoothed-keeps _ ∙ pass-keeps OneStep _ ∙ pass-keeps NoDrop _ ∙ pass-keeps NoShift _ ∙ pass-keeps NoFirst _ ∙ cap-keeps row
 

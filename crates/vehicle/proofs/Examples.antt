@@ -5,7 +5,6 @@ use Prim.Native.Nat.{ℕ}
 use Rattle.refusal.specs.declared.Judged.{Judged}
 use Rattle.refusal.specs.declared.Judged.the-variants.{Accepted, Refused}
 use Rattle.refusal.specs.declared.Refusal.the-variants.{Vehicle, Ratio, PowerToMass}
-use Rattle.vehicle.specs.declared.VehicleSheet.{VehicleSheet}
 use Rattle.vehicle.specs.Sheet.{judgeVehicle}
 
 -- three gears: what stands behind them is not read

@@ -23,7 +23,8 @@ module _ (one other : ℕ → ℕ) where
 
   pub pairs-front : (n more : ℕ) → take (2 * n) (pairs one other (n + more)) ≡ pairs one other n
   pairs-front n more =
-      ap (take (2 * n)) (sym (pairs-on n more)) ∙ take-at (pairs one other n) (pairs (λ i. one (n + i)) (λ i. other (n + i)) more) (2 * n) (pairs-length one other n)
+      ap (take (2 * n)) (sym (pairs-on n more))
+      ∙ take-at (pairs one other n) (pairs (λ i. one (n + i)) (λ i. other (n + i)) more) (2 * n) (pairs-length one other n)
 
   -- the two bytes of a place
   pub pairs-at : (n k : ℕ) → k < n → (getD (pairs one other n) (2 * k) 0 ≡ one k) × (getD (pairs one other n) (2 * k + 1) 0 ≡ other k)
@@ -74,11 +75,9 @@ place (suc i) = go (place i)
 
 pub pairs-are : (one other : ℕ → ℕ) (l : List ℕ) (n : ℕ) → length l ≡ 2 * n → ((k : ℕ) → k < n → getD l (2 * k) 0 ≡ one k)
     → ((k : ℕ) → k < n → getD l (2 * k + 1) 0 ≡ other k) → l ≡ pairs one other n
-pairs-are one other l n long gears clutches =
+pairs-are one other l n long ones others =
     ext-getD 0 l (pairs one other n) (long ∙ sym (pairs-length one other n)) (λ i b. go i b (place i))
   where
     go : (i : ℕ) → i < length l → Place i → getD l i 0 ≡ getD (pairs one other n) i 0
-    go i b (even k e) =
-        ap (λ (i : ℕ). getD l i 0) e ∙ gears k (omega arith) ∙ sym (pairs-at one other n k (omega arith) .0) ∙ ap (λ (i : ℕ). getD (pairs one other n) i 0) (sym e)
-    go i b (odd k e) =
-        ap (λ (i : ℕ). getD l i 0) e ∙ clutches k (omega arith) ∙ sym (pairs-at one other n k (omega arith) .1) ∙ ap (λ (i : ℕ). getD (pairs one other n) i 0) (sym e)
+    go i b (even k e) = rw e (ones k (omega arith) ∙ sym (pairs-at one other n k (omega arith) .0))
+    go i b (odd k e) = rw e (others k (omega arith) ∙ sym (pairs-at one other n k (omega arith) .1))

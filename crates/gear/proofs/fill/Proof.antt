@@ -14,9 +14,11 @@ returns-2 c =
     let lent = c .before .before in
     let told = lent .before .before .before in
     let own = told .before .before .before in
-    let a = own .before .before .before .before .args in
+    let start = own .before .before .before .before in
+    let a = start .args in
     let put = own .own-gears .ensures .1 (told .enum-told .given .1) in
-    let row = ap (λ (l : List ℕ). rowFrom (λ k. getD l k 0) (a .trace .now) (a .n)) put ∙ row-of-own (a .s) (a .trace .now) _ (a .n) (own .before .before .before .before .pre .0 .few) in
+    let row =
+    ap (λ (l : List ℕ). rowFrom (λ k. getD l k 0) (a .trace .now) (a .n)) put ∙ row-of-own (a .s) (a .trace .now) _ (a .n) (start .pre .0 .few) in
     (sym (told .enum-told .given .1) ∙ own .own-gears .ensures .0, lent .into-part .ensures ∙ ap (λ (l : List ℕ). l ++ drop (2 * a .n) (a .part .now)) row)
 
 pub fill-spec : {M : Type 1} → statement M

@@ -12,7 +12,7 @@ use Rattle.house.specs.House.{countOf}
 use Rattle.shift.specs.Speeds.{shiftOf}
 use Rattle.gear.specs.Sheet.{judgeSheet, ifAccepted, withRow}
 use Rattle.gear.proofs.Buffer.{part-whole, part-back}
-use Rattle.gear.proofs.Sheet.{Sound, sheet-sound, sheet-ready, answer-refused, answer-close, buffer-refused, buffer-back}
+use Rattle.gear.proofs.Sheet.{Sound, sheet-sound, sheet-ready, answer-by, buffer-refused, buffer-back}
 use Rattle.gear.proofs.write_gears.Statement.{statement}
 use Rattle.gear.proofs.write_gears.Tie as tie
 
@@ -22,17 +22,17 @@ returns c =
     let a = judged .before .before .before .args in
     let trace = now (a .trace) in
     let buffer = now (a .buffer) in
-    let e = answer-refused trace (a .v) buffer (a .start) (sym (judged .judge-sheet .ensures) ∙ c .enum-told2 .given .1) in
+    let e = answer-by trace (a .v) buffer (a .start) (sym (judged .judge-sheet .ensures) ∙ c .enum-told2 .given .1) in
     (c .enum-told2 .given .1 ∙ sym e, buffer-refused trace (a .v) buffer (a .start) e)
 
 -- past the judging
 abbrev start : tie.After-enum-told → tie.Start
 start c = c .before .before .before .before .before
 
-accepted : (c : tie.After-enum-told) → judgeSheet (now (start c .args .trace)) (start c .args .v) (length (now (start c .args .buffer))) (start c .args .start) ≡ Accepted
+accepted : (c : tie.After-enum-told) → let a = start c .args in judgeSheet (now (a .trace)) (a .v) (length (now (a .buffer))) (a .start) ≡ Accepted
 accepted c = sym (c .before .before .judge-sheet .ensures) ∙ c .enum-told .given .1
 
-sound : (c : tie.After-enum-told) → Sound (now (start c .args .trace)) (start c .args .v) (length (now (start c .args .buffer))) (start c .args .start)
+sound : (c : tie.After-enum-told) → let a = start c .args in Sound (now (a .trace)) (a .v) (length (now (a .buffer))) (a .start)
 sound c = sheet-sound _ _ _ _ (accepted c)
 
 count-of-requires : tie.Need-count-of-requires
@@ -61,11 +61,12 @@ returns-2 c =
     let buffer = now (a .buffer) in
     let n = w .before .count-of .ensures .0 in
     let close = rw (w .shift-of .ensures, n) at (lent .fill .ensures .0) in
-    let answer = close ∙ sym (answer-close trace (a .v) buffer (a .start) (accepted (told w))) in
+    let answer = close ∙ sym (answer-by trace (a .v) buffer (a .start) (accepted (told w))) in
     let filled = rw (w .shift-of .ensures, n) at (lent .fill .ensures .1) in
     let row-in : List ℕ → List ℕ = λ part. ifAccepted (lent .fill .result) (withRow (shiftOf (a .v)) trace (countOf trace) part) part in
     let part = filled ∙ ap row-in (part-whole buffer (a .start)) in
-    (answer, part-back buffer (lent .fill .last .1 .1 .0) (a .start) ∙ ap (λ (l : List ℕ). take (a .start) buffer ++ l) part ∙ buffer-back trace (a .v) buffer (a .start) answer)
+    let back = part-back buffer (lent .fill .last .1 .1 .0) (a .start) ∙ ap (λ (l : List ℕ). take (a .start) buffer ++ l) part in
+    (answer, back ∙ buffer-back trace (a .v) buffer (a .start) answer)
 
 pub write-gears-spec : {M : Type 1} → statement M
 write-gears-spec =

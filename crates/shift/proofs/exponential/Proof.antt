@@ -23,7 +23,7 @@ loop-holds c = (omega arith, c .exactly .ensures, c .exactly .ensures)
 
 -- in a turn, and after the last: the term that follows
 module _ (c : tie.After-next-term Inv-loop μ-loop) where
-  term-is : c .next-term .result ≡ termOf (c .before .before .before .before .args .over) (c .before .before .before .before .args .under) (c .before .before .loop .k + 1)
+  term-is : let a = c .before .before .before .before .args in c .next-term .result ≡ termOf (a .over) (a .under) (c .before .before .loop .k + 1)
   term-is =
       let l = c .before .before .loop in
       let a = c .before .before .before .before .args in
@@ -33,11 +33,11 @@ module _ (c : tie.After-loop Inv-loop μ-loop) where
   ended : c .before .loop .k ≡ 23
   ended = omega arith
 
-  last : c .before .loop .term ≡ termOf (c .before .before .before .args .over) (c .before .before .before .args .under) 23
-  last = c .before .loop .inv .1 ∙ ap (termOf (c .before .before .before .args .over) (c .before .before .before .args .under)) ended
+  last : let a = c .before .before .before .args in c .before .loop .term ≡ termOf (a .over) (a .under) 23
+  last = c .before .loop .inv .1 ∙ ap (termOf _ _) ended
 
-  whole : c .before .loop .sum ≡ sumTo (c .before .before .before .args .over) (c .before .before .before .args .under) 23
-  whole = c .before .loop .inv .2 ∙ ap (sumTo (c .before .before .before .args .over) (c .before .before .before .args .under)) ended
+  whole : let a = c .before .before .before .args in c .before .loop .sum ≡ sumTo (a .over) (a .under) 23
+  whole = c .before .loop .inv .2 ∙ ap (sumTo _ _) ended
 
 next-term-requires : tie.Need-next-term-requires Inv-loop μ-loop
 next-term-requires c κs = rw (c .before .loop .inv .1) (term-fits (c .before .before .before .pre) (c .before .loop .k) (omega arith))
@@ -58,7 +58,7 @@ next-term-requires-2 : tie.Need-next-term-requires-2 Inv-loop μ-loop
 next-term-requires-2 c κs = rw (last c) (term-fits (c .before .before .before .pre) 23 (lit< tt))
 
 module _ (c : tie.After-next-term2 Inv-loop μ-loop) where
-  longest : c .next-term2 .result ≡ termOf (c .before .before .before .before .args .over) (c .before .before .before .before .args .under) 24
+  longest : let a = c .before .before .before .before .args in c .next-term2 .result ≡ termOf (a .over) (a .under) 24
   longest = let a = c .before .before .before .before .args in rw (last (c .before)) at (c .next-term2 .ensures) ∙ sym (term-next (a .over) (a .under) 23)
 
 with-term-requires-2 : tie.Need-with-term-requires-2 Inv-loop μ-loop

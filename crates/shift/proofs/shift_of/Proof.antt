@@ -23,10 +23,14 @@ difference-requires : tie.Need-difference-requires
 difference-requires c κs = rw (part-is (c .before), c .exactly .ensures) (less-fits (c .before .before .before .before .before .pre))
 
 side-requires : tie.Need-side-requires
-side-requires c κs = rw (less-is (c .before .before)) (first-fits (c .before .before .before .before .before .before .before .before .pre))
+side-requires c κs =
+    let less = c .before .before in
+    rw (less-is less) (first-fits (less .before .before .before .before .before .before .pre))
 
 side-requires-2 : tie.Need-side-requires-2
-side-requires-2 c κs = rw (part-is (c .before .before .before .before .before)) (higher-fits (c .before .before .before .before .before .before .before .before .before .pre))
+side-requires-2 c κs =
+    let part = c .before .before .before .before .before in
+    rw (part-is part) (higher-fits (part .before .before .before .before .pre))
 
 returns : tie.Need-returns
 unfolding shiftOf firstSide higherSide

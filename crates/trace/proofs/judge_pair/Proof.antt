@@ -9,10 +9,13 @@ use Rattle.trace.proofs.judge_pair.Statement.{statement}
 use Rattle.trace.proofs.judge_pair.Tie as tie
 
 -- past a `let .. else` its trace is accepted
-abbrev normal-accepted : (c : tie.After-enum-told) → judgeTrace (c .before .before .before .before .before .args .normal .now) ≡ Accepted
+abbrev start : tie.After-enum-told → tie.Start
+start c = c .before .before .before .before .before
+
+abbrev normal-accepted : (c : tie.After-enum-told) → judgeTrace (start c .args .normal .now) ≡ Accepted
 normal-accepted c = sym (c .before .before .judge .ensures) ∙ c .enum-told .given .1
 
-abbrev reduced-accepted : (c : tie.After-enum-told3) → judgeTrace (c .before .before .before .before .before .before .before .before .args .reduced .now) ≡ Accepted
+abbrev reduced-accepted : (c : tie.After-enum-told3) → judgeTrace (start (c .before .before .before) .args .reduced .now) ≡ Accepted
 reduced-accepted c = sym (c .before .before .judge2 .ensures) ∙ c .enum-told3 .given .1
 
 returns : tie.Need-returns
