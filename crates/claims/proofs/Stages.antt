@@ -6,7 +6,7 @@ use lib.IntN.{ℤ, pos, negsuc, _+ℤ_, _-ℤ_, _*ℤ_}
 use lib.Signed.{_≤ℤ_}
 use Rattle.arith.specs.declared.Ends.{Ends}
 use Rattle.arith.specs.Stages.{exactly, dividedBy}
-use Rattle.arith.specs.Fraction.{Fraction, whole, _+ᶠ_, _-ᶠ_, _*ᶠ_, _/ᶠ_, Between}
+use Rattle.arith.specs.Fraction.{Fraction, decimal, whole, _+ᶠ_, _-ᶠ_, _*ᶠ_, _/ᶠ_, Between}
 use Rattle.arith.proofs.Parts.{up, zs, add-parts, sub-parts, mul-parts}
 use Rattle.arith.proofs.Ring.{one-mul, mul-one, mul-pos, products}
 use Rattle.arith.proofs.Enclosure.{exactly-holds, sum-holds, difference-holds, scaled-holds, product-holds, divided-holds, same-value}
@@ -18,7 +18,7 @@ use Rattle.stage.specs.Ranges.{VolumeRanges, KhRanges}
 use Rattle.stage.proofs.Steps.{kelvin-least, vapour-most, divisor-least}
 use Rattle.bag.specs.declared.Part.{Part}
 use Rattle.part.specs.Part.{volumeIn}
-use Rattle.claims.specs.Exact.{count, decimal, exactVolume, exactH, exactKh, percentOf}
+use Rattle.claims.specs.Exact.{count, exactVolume, exactH, exactKh, percentOf}
 
 -- ---- fractions of naturals
 abbrev ratio : ℕ → ℕ → Fraction
