@@ -19,8 +19,8 @@ use Rattle.emission.specs.declared.Answer.{Answer}
 use Rattle.emission.specs.declared.Answer.the-variants.{Result, Refused}
 use Rattle.emission.specs.Test.{nothing, noPart}
 use Rattle.outcome.specs.declared.Outcome.{Outcome}
-use Rattle.crossing.specs.declared.Reading.{Reading}
-use Rattle.crossing.specs.declared.Readings.{Readings}
+use Rattle.crossing.specs.declared.MessageNumbers.{MessageNumbers}
+use Rattle.crossing.specs.declared.BagNumbers.{BagNumbers}
 use Rattle.crossing.specs.declared.SheetPart.{SheetPart}
 use Rattle.crossing.specs.declared.Sheet.{Sheet}
 use Rattle.crossing.specs.declared.VerdictNumbers.{VerdictNumbers}
@@ -29,12 +29,12 @@ use Rattle.outcome.specs.Outcome.{outcomeOf}
 
 -- ---- in
 -- 0 ppm, 1 percent, 2 over range; every other kind is not fitted
-abbrev pub messageOf : Reading → Message
+abbrev pub messageOf : MessageNumbers → Message
 messageOf r =
     cond (eqb (r .kind) 0) (Ppm (ofBits binary32 (r .bits)))
     (cond (eqb (r .kind) 1) (Percent (ofBits binary32 (r .bits))) (cond (eqb (r .kind) 2) OverRange NotFitted))
 
-unfoldable pub bagOf : Readings → Bag
+unfoldable pub bagOf : BagNumbers → Bag
 bagOf r = record { hc = messageOf (r .hc); co = messageOf (r .co); nox = messageOf (r .nox); co2 = messageOf (r .co2) }
 
 unfoldable pub sheetPartOf : SheetPart → Part

@@ -23,18 +23,18 @@ ghost use Rattle.crossing.specs.Sheet.{messageOf, bagOf, sheetPartOf, sh
 
 // A message of the analyser: kind 0 ppm, 1 percent, 2 over range, and every other not fitted. The float comes as its bits.
 #[repr(C)]
-pub struct Reading {
+pub struct MessageNumbers {
     pub kind: u32,
     pub bits: u32,
 }
 
-// The readings of one bag, or of its dilution air.
+// The messages of one bag, or of its dilution air.
 #[repr(C)]
-pub struct Readings {
-    pub hc: Reading,
-    pub co: Reading,
-    pub nox: Reading,
-    pub co2: Reading,
+pub struct BagNumbers {
+    pub hc: MessageNumbers,
+    pub co: MessageNumbers,
+    pub nox: MessageNumbers,
+    pub co2: MessageNumbers,
 }
 
 // `bag::Part`, its messages as numbers.
@@ -49,8 +49,8 @@ pub struct SheetPart {
     pub saturation: u32,
     pub distance: u32,
     pub density: Densities,
-    pub bag: Readings,
-    pub air: Readings,
+    pub bag: BagNumbers,
+    pub air: BagNumbers,
 }
 
 // `bag::BagSheet`, its messages as numbers.
@@ -85,7 +85,7 @@ pub struct TestOutcome {
     pub fuel: Ends,
 }
 
-fn message_of(r: Reading) -> Message
+fn message_of(r: MessageNumbers) -> Message
     ensures { λ m. ⌜ m ≡ messageOf r ⌝ }
 {
     let kind = r.kind;
@@ -97,7 +97,7 @@ fn message_of(r: Reading) -> Message
     }
 }
 
-fn bag_of(r: Readings) -> Bag
+fn bag_of(r: BagNumbers) -> Bag
     ensures { λ b. ⌜ b ≡ bagOf r ⌝ }
 {
     Bag {
