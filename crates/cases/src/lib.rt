@@ -185,21 +185,21 @@ fn read_changes(line: &[u8], lasting: &mut [u64; 802], own: &mut [u64; 802]) -> 
     bar
 }
 
-// Where a line ends, and how long its text is.
+// Where the text of a case ends, and where its line does. The text of a line that is none ends where it begins.
 pub struct Line {
-    pub end: usize,
     pub said: usize,
+    pub end: usize,
 }
 
 // The line at a place: the numbers of a case come to be its own.
 pub fn read_line(text: &[u8], at: usize, lasting: &mut [u64; 802], own: &mut [u64; 802]) -> Line
     requires { ⌜ at < length (now text) ⌝ }
-    ensures { λ r. ⌜ (at < r .end) × (r .end ≤ length (now (text .entry))) ⌝ }
+    ensures { λ r. ⌜ (at ≤ r .said) × (r .said ≤ length (now (text .entry))) × (at < r .end) × (r .end ≤ length (now (text .entry))) ⌝ }
 {
     let end = line_end(text, at);
     Line {
+        said: at + read_changes(&text[at..end], lasting, own),
         end,
-        said: read_changes(&text[at..end], lasting, own),
     }
 }
 

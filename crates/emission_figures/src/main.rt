@@ -11,7 +11,7 @@ fn lines(text: &[u8]) {
     let mut at = 0;
     while at < text.len() {
         let line = cases::read_line(text, at, &mut lasting, &mut own);
-        if 0 < line.said {
+        if at < line.said {
             output::show(own);
         }
         at = line.end;

@@ -1,10 +1,10 @@
--- `gear_figures::times` is safe: two numbers below 2^32 have a product below 2^64. Assumes nothing.
+-- `gear_figures::shifts::times` is safe: two numbers below 2^32 have a product below 2^64. Assumes nothing.
 use Prim.Native.Nat.{_≤_}
 use native.Mathlib.Nat.{mul-le-mul}
 use native.Mathlib.Omega.{arith}
 use borrow.Author.Needs.{needs}
-use Rattle.gear_figures.proofs.times.Statement.{statement}
-use Rattle.gear_figures.proofs.times.Tie as tie
+use Rattle.gear_figures.proofs.shifts.times.Statement.{statement}
+use Rattle.gear_figures.proofs.shifts.times.Tie as tie
 
 mul-result : tie.Need-mul-result
 mul-result c =

@@ -1,0 +1,84 @@
+// What is printed of an outcome and of a row.
+ghost use Prim.Native.Nat.{_≤_};
+ghost use lib.ListN.{length};
+use print::text;
+use refusal::Judged;
+use refusal::Refusal;
+
+// A number as `print::filled` takes it.
+pub fn figure(n: u64) -> i64 {
+    (n % 9223372036854775808) as i64
+}
+
+fn accepted() {
+    text(b" accepted");
+}
+
+fn refused(refusal: Refusal) {
+    let place = refusal::place_of(refusal);
+    let number = refusal::number_of(refusal);
+    print::filled(b" refused # at #", &[number as i64, place.at as i64]);
+}
+
+pub fn outcome(judged: Judged) {
+    match judged {
+        Judged::Accepted => accepted(),
+        Judged::Refused(refusal) => refused(refusal),
+    }
+}
+
+fn wide(byte: u8) -> u64
+    ensures { λ r. ⌜ r ≤ 255 ⌝ }
+{
+    byte as u64
+}
+
+// The bytes as digits to the base 257, modulo a prime: one changed byte changes it, and so do two that change places.
+fn with_byte(sum: u64, byte: u8) -> u64 {
+    (257 * (sum % 4294967291) + wide(byte) + 1) % 4294967291
+}
+
+pub fn checksum(bytes: &[u8], from: usize, to: usize) -> u64
+    requires { ⌜ to ≤ length (now bytes) ⌝ }
+{
+    let mut sum = 0;
+    let mut k = from;
+    while k < to {
+        sum = with_byte(sum, bytes[k]);
+        k += 1;
+    }
+    sum
+}
+
+fn row_sum(row: [u8; 24]) -> i64 {
+    figure(checksum(&row, 0, 24))
+}
+
+// What a refused row holds is what it was lent with.
+fn buffer(row: [u8; 24]) {
+    print::filled(b", buffer # #", &[row_sum([165; 24]), row_sum(row)]);
+}
+
+fn gears(row: [u8; 24], count: usize)
+    requires { ⌜ count ≤ 10 ⌝ }
+{
+    text(b", gears");
+    let mut k = 0;
+    while k < count {
+        print::number(wide(row[2 * k]));
+        k += 1;
+    }
+}
+
+// The outcome, and then the gears of a few seconds, or the buffer's checksum before and after.
+pub fn row(judged: Judged, row: [u8; 24], count: usize)
+    requires { ⌜ count ≤ 10 ⌝ }
+{
+    outcome(judged);
+    if let Judged::Accepted = judged {
+        gears(row, count);
+    } else {
+        buffer(row);
+    }
+    print::end_line();
+}
