@@ -28,7 +28,7 @@ extern "C" {
  *
  *     if (ylhovesko_version() != YLHOVESKO_VERSION) return EXIT_FAILURE;
  */
-#define YLHOVESKO_VERSION 2u
+#define YLHOVESKO_VERSION 3u
 
 /* The version of the archive. */
 uint32_t ylhovesko_version(void);
@@ -82,6 +82,8 @@ typedef struct {
 /*
  * The gear and the clutch of every second of a trace, two bytes a second, into buffer from the byte `start` on: first the gear (0 neutral), then
  * the clutch (0 in, 1 out). Bytes before start and after the last second stay, so the parts of a test can follow one another in one buffer.
+ * The clutch is out at a stop, below 10.0 km/h, and where the engine is slower than idle + 0.03 (rated - idle) in the second's gear: where the speed in
+ * 0.1 km/h times ndv of that gear is below 1,000 idle + 30 (rated - idle).
  *
  * A trace is a house file: 'W' 'T' 'R' 0, version 1 and the count of seconds (16 bits each, low byte first), then 4 bytes a second: speed in
  * 0.1 km/h (16 bits, low byte first, 0 to 2,000), flags, 0. Flags: bits 0-1 the phase (0 stop, 1 acceleration, 2 cruise, 3 deceleration), bit 2

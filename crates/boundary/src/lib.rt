@@ -23,7 +23,7 @@ ghost use Rattle.crossing.specs.Sheet.{sheetOf, resultOut};
 pub extern "C" fn ylhovesko_version() -> u32
     ensures { λ r. ⌜ r ≡ version ⌝ }
 {
-    2
+    3
 }
 
 // The gear sheet: refusals 1 to 9, or the row in the buffer from the start on.

@@ -7,22 +7,21 @@ use Prim.Native.Nat.{ℕ, suc, _-_, _*_, _≤_}
 use native.Mathlib.Omega.{arith}
 use lib.ListN.{length}
 use Rattle.house.specs.House.{flagsAt, speedAt, stop, acceleration}
+use Rattle.vehicle.specs.declared.VehicleSheet.{VehicleSheet}
 use Rattle.shift.specs.declared.Shift.{Shift}
 use Rattle.shift.specs.declared.Own.{Own}
-use Rattle.shift.specs.Speeds.{aboveAt, tallyOf, ownGear}
+use Rattle.shift.specs.Speeds.{aboveAt, tallyOf, ownGear, shiftOf}
 use Rattle.shift.proofs.Counting.{count-most}
 use Rattle.row.specs.declared.Rule.the-variants.{NoFirst, NoShift, NoDrop, OneStep}
 use Rattle.row.specs.Row.{gearAt}
 use Rattle.row.specs.Corrections.{capRuns, passBy}
-use Rattle.phase.specs.Phase.{firstRow, clutched}
-use Rattle.runs.specs.Corrected.{corrected}
+use Rattle.phase.specs.Phase.{firstRow}
 use Rattle.gear.specs.Own.{ownSecond, ownAt}
-use Rattle.gear.specs.Sheet.{rowOf}
-use Rattle.claims.proofs.Rows.{row-length}
+use Rattle.gear.specs.Sheet.{correctedFrom, ownOf, rowOf}
+use Rattle.claims.proofs.Rows.{row-length, row-gear}
 use Rattle.row.proofs.Passes.{cap-length, pass-length}
 use Rattle.row.proofs.Ranges.{FromTo, leastBy}
 use Rattle.phase.proofs.Stops.{first-length}
-use Rattle.phase.proofs.Clutch.{clutched-gear}
 use Rattle.claims.proofs.Seconds.{Second, first-second, cap-second, pass-second}
 use Rattle.claims.proofs.Smoothing.{Fit, pass-near, smoothed-fit}
 
@@ -46,7 +45,7 @@ module _ (s : Shift) (enough : 3 ≤ s .gears) where
 
   -- ---- through the corrections
   module _ (trace : List ℕ) (n : ℕ) where
-    corrected-fit : Fit trace n (s .gears) (corrected trace (firstRow (λ k. ownAt s trace k .gear) trace n) n)
+    corrected-fit : Fit trace n (s .gears) (correctedFrom (λ k. ownAt s trace k .gear) trace n)
     corrected-fit =
         let row₀ = firstRow (λ k. ownAt s trace k .gear) trace n in
         let row₁ = capRuns trace row₀ n in
@@ -71,18 +70,18 @@ module _ (s : Shift) (enough : 3 ≤ s .gears) where
           near = pass-near trace row₄ n long₄;
         })
 
-    pub row-fit : Fit trace n (s .gears) (rowOf s trace n)
-    unfolding rowOf
-    row-fit =
-        let row = corrected trace (firstRow (λ k. ownAt s trace k .gear) trace n) n in
-        let same : (k : ℕ) → gearAt row k ≡ gearAt (clutched trace row n) k = λ k. sym (clutched-gear trace row n k) in
-        let fit = corrected-fit in
-        record {
-          long = omega (arith, row-length s trace n);
-          second = λ k l. subst (Second trace n (s .gears) (leastBy (flagsAt trace k)) k) (same k) (fit .second k l);
-          near = λ k l e.
-              let near = fit .near k l e in
-              let here = same k in
-              let next = same (suc k) in
-              record { up = omega arith; down = omega arith };
-        }
+-- ---- with the clutch
+pub row-fit : (v : VehicleSheet) → 3 ≤ v .gears → (trace : List ℕ) (n : ℕ) → Fit trace n (v .gears) (rowOf v trace n)
+unfolding shiftOf
+row-fit v enough trace n =
+    let same : (k : ℕ) → gearAt (rowOf v trace n) k ≡ gearAt (correctedFrom (ownOf v trace) trace n) k = row-gear v trace n in
+    let fit = corrected-fit (shiftOf v) enough trace n in
+    record {
+      long = omega (arith, row-length v trace n);
+      second = λ k l. subst (Second trace n (v .gears) (leastBy (flagsAt trace k)) k) (sym (same k)) (fit .second k l);
+      near = λ k l e.
+          let near = fit .near k l e in
+          let here = same k in
+          let next = same (suc k) in
+          record { up = omega arith; down = omega arith };
+    }

@@ -11,12 +11,11 @@ use lib.ListN.{length}
 use Rattle.refusal.specs.declared.Judged.the-variants.{Accepted}
 use Rattle.house.specs.House.{countOf, flagsAt, stopAt, noFirstAt}
 use Rattle.vehicle.specs.declared.VehicleSheet.{VehicleSheet}
-use Rattle.shift.specs.Speeds.{shiftOf}
 use Rattle.row.specs.Row.{gearAt}
 use Rattle.phase.specs.Phase.{stopEnd, stopGear}
 use Rattle.gear.specs.Sheet.{gearAnswer}
 use Rattle.claims.specs.Rows.{finishedRow, AtMostOneStep, Written, Driven}
-use Rattle.claims.proofs.Rows.{row-held, accepted-sound, outside-kept, length-kept, clutch-is, clutch-bit}
+use Rattle.claims.proofs.Rows.{row-held, accepted-sound, outside-kept, length-kept, gear-is, clutch-is, clutch-bit}
 use Rattle.phase.proofs.Stops.{last-gear}
 use Rattle.row.proofs.Ranges.{leastBy, least-range}
 use Rattle.claims.proofs.Smoothing.{Fit}
@@ -25,10 +24,9 @@ use Rattle.claims.proofs.Finished.{row-fit}
 module _ (trace : List ℕ) (v : VehicleSheet) (buffer : List ℕ) (start : ℕ) (accepted : gearAnswer trace v (length buffer) start ≡ Accepted) where
   -- all of it at once
   held : Fit trace (countOf trace) (v .gears) (finishedRow trace v buffer start)
-  unfolding shiftOf
   held =
       let ranged = accepted-sound trace v buffer start accepted .of-vehicle .ranged in
-      subst (Fit trace (countOf trace) (v .gears)) (sym (row-held trace v buffer start accepted)) (row-fit (shiftOf v) (ranged .gears .0) trace (countOf trace))
+      subst (Fit trace (countOf trace) (v .gears)) (sym (row-held trace v buffer start accepted)) (row-fit v (ranged .gears .0) trace (countOf trace))
 
   -- the stop rule holds of the finished row too
   pub stop-kept : (k : ℕ) → k < countOf trace → stopAt trace k ≡ true
@@ -87,6 +85,7 @@ module _ (trace : List ℕ) (v : VehicleSheet) (buffer : List ℕ) (start : ℕ)
   pub driven : (k : ℕ) → k < countOf trace → Driven trace v (finishedRow trace v buffer start) k
   driven k l =
       record {
+        gear = gear-is trace v buffer start accepted k;
         clutch = clutch-is trace v buffer start accepted k l;
         in-or-out = clutch-bit trace v buffer start accepted k l;
         most = gear-most k l;

@@ -16,6 +16,7 @@ use Rattle.row.proofs as row
 use Rattle.runs.proofs as runs
 use Rattle.phase.proofs as phase
 use Rattle.vehicle.proofs as vehicle
+use Rattle.clutch.proofs as clutch
 use Rattle.shift.proofs as shift
 use Rattle.gear.proofs as gear
 use Rattle.reading.proofs as reading
@@ -142,15 +143,22 @@ runs-correct-unique κs a x y ws vs pre h h′ = (refl, ap (λ (l : List ℕ). (
 pub phase-first-row-unique : Coincide 3 phase.first_row.Kinds.ps phase.first_row.Kinds.r phase.first_row.Reads.Pre phase.first_row.Reads.Post
 phase-first-row-unique κs a x y ws vs pre h h′ = (refl, ap (λ (l : List ℕ). (tt, (tt, (l, (tt, tt))))) (h ∙ sym h′))
 
-pub phase-set-clutch-unique : Coincide 2 phase.set_clutch.Kinds.ps phase.set_clutch.Kinds.r phase.set_clutch.Reads.Pre phase.set_clutch.Reads.Post
-phase-set-clutch-unique κs a x y ws vs pre h h′ = (refl, ap (λ (l : List ℕ). (tt, (l, (tt, tt)))) (h ∙ sym h′))
-
-pub phase-clutch-of-unique : Coincide 0 phase.clutch_of.Kinds.ps phase.clutch_of.Kinds.r phase.clutch_of.Reads.Pre phase.clutch_of.Reads.Post
-phase-clutch-of-unique κs a x y ws vs pre h h′ = (h ∙ sym h′, refl)
-
 -- ---- vehicle
 pub vehicle-judge-unique : Coincide 0 vehicle.judge.Kinds.ps vehicle.judge.Kinds.r vehicle.judge.Reads.Pre vehicle.judge.Reads.Post
 vehicle-judge-unique κs a x y ws vs pre h h′ = (h ∙ sym h′, refl)
+
+pub vehicle-lowest-engine-speed-unique : Coincide 0 vehicle.lowest_engine_speed.Kinds.ps vehicle.lowest_engine_speed.Kinds.r vehicle.lowest_engine_speed.Reads.Pre vehicle.lowest_engine_speed.Reads.Post
+vehicle-lowest-engine-speed-unique κs a x y ws vs pre h h′ = (h ∙ sym h′, refl)
+
+pub vehicle-below-lowest-unique : Coincide 0 vehicle.below_lowest.Kinds.ps vehicle.below_lowest.Kinds.r vehicle.below_lowest.Reads.Pre vehicle.below_lowest.Reads.Post
+vehicle-below-lowest-unique κs a x y ws vs pre h h′ = (h ∙ sym h′, refl)
+
+-- ---- clutch
+pub clutch-clutch-of-unique : Coincide 0 clutch.clutch_of.Kinds.ps clutch.clutch_of.Kinds.r clutch.clutch_of.Reads.Pre clutch.clutch_of.Reads.Post
+clutch-clutch-of-unique κs a x y ws vs pre h h′ = (h ∙ sym h′, refl)
+
+pub clutch-set-clutch-unique : Coincide 2 clutch.set_clutch.Kinds.ps clutch.set_clutch.Kinds.r clutch.set_clutch.Reads.Pre clutch.set_clutch.Reads.Post
+clutch-set-clutch-unique κs a x y ws vs pre h h′ = (refl, ap (λ (l : List ℕ). (tt, (tt, (l, (tt, tt))))) (h ∙ sym h′))
 
 -- ---- shift
 pub shift-shift-of-unique : Coincide 0 shift.shift_of.Kinds.ps shift.shift_of.Kinds.r shift.shift_of.Reads.Pre shift.shift_of.Reads.Post

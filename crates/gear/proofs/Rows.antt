@@ -7,19 +7,22 @@ use lib.ListN.{length, getD}
 use Rattle.walk.proofs.Pairs.{pairs-both}
 use Rattle.walk.proofs.Stores.{put-at}
 use Rattle.house.specs.House.{flagsAt}
-use Rattle.shift.specs.declared.Shift.{Shift}
-use Rattle.phase.specs.Phase.{stopEnd, gearBy, firstGear, firstRow, clutched}
+use Rattle.vehicle.specs.declared.VehicleSheet.{VehicleSheet}
+use Rattle.shift.specs.Speeds.{shiftOf}
+use Rattle.phase.specs.Phase.{stopEnd, gearBy, firstGear, firstRow}
 use Rattle.runs.specs.Corrected.{corrected}
-use Rattle.gear.specs.Own.{ownAt, putOwn}
-use Rattle.gear.specs.Sheet.{rowFrom, rowOf}
+use Rattle.clutch.specs.Clutch.{clutchBy, withClutch}
+use Rattle.gear.specs.Own.{putOwn}
+use Rattle.gear.specs.Sheet.{rowFrom, ownOf, rowOf}
 
 first-same : (f g : ℕ → ℕ) (trace : List ℕ) (n : ℕ) → ((k : ℕ) → k < n → f k ≡ g k) → firstRow f trace n ≡ firstRow g trace n
 unfolding firstRow firstGear
 first-same f g trace n same =
     pairs-both _ _ (λ k. 0) (λ k. 0) n (λ k l. ap (λ (own : ℕ). gearBy (flagsAt trace k) own (stopEnd trace n k - k)) (same k l)) (λ k l. refl)
 
-pub row-of-own : (s : Shift) (trace own : List ℕ) (n : ℕ) → n ≤ length own → rowFrom (λ k. getD (putOwn s trace own n) k 0) trace n ≡ rowOf s trace n
+pub row-of-own : (v : VehicleSheet) (trace own : List ℕ) (n : ℕ) → n ≤ length own
+    → rowFrom v (λ k. getD (putOwn (shiftOf v) trace own n) k 0) trace n ≡ rowOf v trace n
 unfolding rowOf
-row-of-own s trace own n room =
-    ap (λ (row : List ℕ). clutched trace (corrected trace row n) n)
-    (first-same _ _ trace n (λ k l. put-at (λ k. ownAt s trace k .gear) own n k l room))
+row-of-own v trace own n room =
+    ap (λ (row : List ℕ). withClutch (clutchBy v trace) (corrected trace row n) n)
+    (first-same _ _ trace n (λ k l. put-at (ownOf v trace) own n k l room))

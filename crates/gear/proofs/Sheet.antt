@@ -63,11 +63,11 @@ module _ (trace : List ℕ) (v : VehicleSheet) (buffer : List ℕ) (start : ℕ)
 
   pub buffer-refused : {refusal : Refusal} → gearAnswer trace v (length buffer) start ≡ Refused refusal → buffer ≡ gearBuffer trace v buffer start
   unfolding gearBuffer
-  buffer-refused e = sym (ap (λ (j : Judged). ifAccepted j (take start buffer ++ withRow (shiftOf v) trace (countOf trace) (drop start buffer)) buffer) e)
+  buffer-refused e = sym (ap (λ (j : Judged). ifAccepted j (take start buffer ++ withRow v trace (countOf trace) (drop start buffer)) buffer) e)
 
   pub buffer-back : {j : Judged} → j ≡ gearAnswer trace v (length buffer) start
-      → take start buffer ++ ifAccepted j (withRow (shiftOf v) trace (countOf trace) (drop start buffer)) (drop start buffer) ≡ gearBuffer trace v buffer start
+      → take start buffer ++ ifAccepted j (withRow v trace (countOf trace) (drop start buffer)) (drop start buffer) ≡ gearBuffer trace v buffer start
   unfolding gearBuffer
   buffer-back {j} e =
-      let new = withRow (shiftOf v) trace (countOf trace) (drop start buffer) in
+      let new = withRow v trace (countOf trace) (drop start buffer) in
       back-by j new ∙ ap (λ (j : Judged). ifAccepted j (take start buffer ++ new) buffer) e

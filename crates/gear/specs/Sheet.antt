@@ -12,18 +12,25 @@ use Rattle.house.specs.House.{countOf}
 use Rattle.trace.specs.Judging.{judgeTrace}
 use Rattle.vehicle.specs.declared.VehicleSheet.{VehicleSheet}
 use Rattle.vehicle.specs.Sheet.{judgeVehicle}
-use Rattle.shift.specs.declared.Shift.{Shift}
 use Rattle.shift.specs.Speeds.{shiftOf}
-use Rattle.phase.specs.Phase.{firstRow, clutched}
+use Rattle.phase.specs.Phase.{firstRow}
 use Rattle.runs.specs.Corrected.{corrected}
+use Rattle.clutch.specs.Clutch.{clutchBy, withClutch}
 use Rattle.gear.specs.Own.{ownAt, judgeClose}
 
--- the row from the gears outside stop: before corrections, corrected, and with its clutch
-abbrev pub rowFrom : (ℕ → ℕ) → List ℕ → ℕ → List ℕ
-rowFrom own trace n = clutched trace (corrected trace (firstRow own trace n) n) n
+-- the row from the gears outside stop: before corrections, and corrected; then with its clutch
+abbrev pub correctedFrom : (ℕ → ℕ) → List ℕ → ℕ → List ℕ
+correctedFrom own trace n = corrected trace (firstRow own trace n) n
 
-unfoldable pub rowOf : Shift → List ℕ → ℕ → List ℕ
-rowOf s trace n = rowFrom (λ k. ownAt s trace k .gear) trace n
+abbrev pub rowFrom : VehicleSheet → (ℕ → ℕ) → List ℕ → ℕ → List ℕ
+rowFrom v own trace n = withClutch (clutchBy v trace) (correctedFrom own trace n) n
+
+-- the gear of second k outside stop, by the shift speeds of the vehicle
+abbrev pub ownOf : VehicleSheet → List ℕ → ℕ → ℕ
+ownOf v trace k = ownAt (shiftOf v) trace k .gear
+
+unfoldable pub rowOf : VehicleSheet → List ℕ → ℕ → List ℕ
+rowOf v trace n = rowFrom v (ownOf v trace) trace n
 
 -- 8: "start past the buffer, or under 2 x count bytes there"
 abbrev pub judgeRoom : ℕ → ℕ → ℕ → Judged
@@ -45,12 +52,12 @@ ifAccepted Accepted new old = new
 ifAccepted (Refused refusal) new old = old
 
 -- a part with the row at its front; "bytes .. after the last second written stay"
-abbrev pub withRow : Shift → List ℕ → ℕ → List ℕ → List ℕ
-withRow s trace n part = rowOf s trace n ++ drop (2 * n) part
+abbrev pub withRow : VehicleSheet → List ℕ → ℕ → List ℕ → List ℕ
+withRow v trace n part = rowOf v trace n ++ drop (2 * n) part
 
 -- the buffer at the end: "Bytes before the start and after the last second written stay"
 unfoldable pub gearBuffer : List ℕ → VehicleSheet → List ℕ → ℕ → List ℕ
 gearBuffer trace v buffer start =
     ifAccepted (gearAnswer trace v (length buffer) start)
-    (take start buffer ++ withRow (shiftOf v) trace (countOf trace) (drop start buffer))
+    (take start buffer ++ withRow v trace (countOf trace) (drop start buffer))
     buffer

@@ -10,7 +10,8 @@ ghost use Prim.Native.Nat.{_*_, _≤_};
 ghost use lib.ListN.{length, getD, drop};
 ghost use Rattle.refusal.specs.declared.Judged.the-variants.{Accepted};
 ghost use Rattle.row.specs.Row.{HaveSeconds};
-ghost use Rattle.shift.specs.Speeds.{ShiftRanges};
+ghost use Rattle.vehicle.specs.Sheet.{Sound};
+ghost use Rattle.shift.specs.Speeds.{shiftOf, ShiftRanges};
 ghost use Rattle.gear.specs.Own.{ownSecond, judgeClose, putOwn, Ready};
 ghost use Rattle.gear.specs.Sheet.{rowFrom, judgeSheet, gearAnswer, ifAccepted, withRow, gearBuffer};
 
@@ -48,36 +49,36 @@ fn own_gears(s: Shift, trace: &[u8], own: &mut [u8], n: usize) -> Judged
 }
 
 // The finished row, over all of a slice.
-fn finish(trace: &[u8], own: &[u8], row: &mut [u8], n: usize)
-    requires { ⌜ (HaveSeconds (now trace) (now row) n) × (length (now row) ≡ 2 * n) × (n ≤ length (now own)) ⌝ }
-    ensures { λ _. ⌜ now (row .exit) ≡ rowFrom (λ k. getD (now (own .entry)) k 0) (now (trace .entry)) n ⌝ }
+fn finish(v: VehicleSheet, trace: &[u8], own: &[u8], row: &mut [u8], n: usize)
+    requires { ⌜ (v .idle ≤ v .rated) × (HaveSeconds (now trace) (now row) n) × (length (now row) ≡ 2 * n) × (n ≤ length (now own)) ⌝ }
+    ensures { λ _. ⌜ now (row .exit) ≡ rowFrom v (λ k. getD (now (own .entry)) k 0) (now (trace .entry)) n ⌝ }
 {
     phase::first_row(trace, own, row, n);
     runs::correct(trace, row, n);
-    phase::set_clutch(trace, row, n);
+    clutch::set_clutch(v, trace, row, n);
 }
 
 // The row at the front of a longer part, whose other bytes stay.
-fn into_part(trace: &[u8], own: &[u8], part: &mut [u8], n: usize)
-    requires { ⌜ (HaveSeconds (now trace) (now part) n) × (n ≤ length (now own)) ⌝ }
-    ensures { λ _. ⌜ now (part .exit) ≡ rowFrom (λ k. getD (now (own .entry)) k 0) (now (trace .entry)) n ++ drop (2 * n) (now (part .entry)) ⌝ }
+fn into_part(v: VehicleSheet, trace: &[u8], own: &[u8], part: &mut [u8], n: usize)
+    requires { ⌜ (v .idle ≤ v .rated) × (HaveSeconds (now trace) (now part) n) × (n ≤ length (now own)) ⌝ }
+    ensures { λ _. ⌜ now (part .exit) ≡ rowFrom v (λ k. getD (now (own .entry)) k 0) (now (trace .entry)) n ++ drop (2 * n) (now (part .entry)) ⌝ }
 {
     let m = 2 * n;
-    finish(trace, own, &mut part[..m], n);
+    finish(v, trace, own, &mut part[..m], n);
 }
 
 // Refusal 9, or the row at the front of the part.
-fn fill(s: Shift, trace: &[u8], part: &mut [u8], n: usize) -> Judged
-    requires { ⌜ (Ready s (now trace) n) × (2 * n ≤ length (now part)) ⌝ }
-    ensures { λ r. ⌜ (r ≡ judgeClose s (now (trace .entry)) 0 n)
-        × (now (part .exit) ≡ ifAccepted r (withRow s (now (trace .entry)) n (now (part .entry))) (now (part .entry))) ⌝ }
+fn fill(v: VehicleSheet, trace: &[u8], part: &mut [u8], n: usize) -> Judged
+    requires { ⌜ (Sound v) × (Ready (shiftOf v) (now trace) n) × (2 * n ≤ length (now part)) ⌝ }
+    ensures { λ r. ⌜ (r ≡ judgeClose (shiftOf v) (now (trace .entry)) 0 n)
+        × (now (part .exit) ≡ ifAccepted r (withRow v (now (trace .entry)) n (now (part .entry))) (now (part .entry))) ⌝ }
 {
     let mut own = [0u8; 2000];
-    let close = own_gears(s, trace, &mut own, n);
+    let close = own_gears(shift::shift_of(v), trace, &mut own, n);
     let Judged::Accepted = close else {
         return close;
     };
-    into_part(trace, &own, part, n);
+    into_part(v, trace, &own, part, n);
     Judged::Accepted
 }
 
@@ -111,5 +112,5 @@ pub fn write_gears(trace: &[u8], v: VehicleSheet, buffer: &mut [u8], start: usiz
         return judged;
     };
     let n = house::count_of(trace);
-    fill(shift::shift_of(v), trace, &mut buffer[start..], n)
+    fill(v, trace, &mut buffer[start..], n)
 }

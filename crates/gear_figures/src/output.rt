@@ -59,13 +59,21 @@ fn buffer(row: [u8; 24]) {
     print::filled(b", buffer # #", &[row_sum([165; 24]), row_sum(row)]);
 }
 
+fn second(gear: u8, clutch: u8) {
+    print::number(wide(gear));
+    if clutch == 1 {
+        text(b" out");
+    }
+}
+
+// The gear of each second, and whether its clutch is out.
 fn gears(row: [u8; 24], count: usize)
     requires { ⌜ count ≤ 10 ⌝ }
 {
     text(b", gears");
     let mut k = 0;
     while k < count {
-        print::number(wide(row[2 * k]));
+        second(row[2 * k], row[2 * k + 1]);
         k += 1;
     }
 }

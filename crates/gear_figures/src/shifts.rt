@@ -109,8 +109,14 @@ pub fn shift_speed(n: [u64; 802]) {
     side_speeds(n, side_of(shift::shift_of(v), word_at(n, 0, 21)));
 }
 
-// 001, Annex 13, 2.8: the clutch is let out at idle and 3 per cent of the way to rated.
+// 001, table A13-3, "2 to cl": where the clutch goes out.
 pub fn clutch_speed(n: [u64; 802]) {
-    let e = 9700 * word_at(n, 0, 4) as u64 + 300 * word_at(n, 0, 3) as u64;
+    let v = vehicle_in(n);
+    let judged = vehicle::judge(v);
+    let Judged::Accepted = judged else {
+        output::outcome(judged);
+        return;
+    };
+    let e = 10 * vehicle::lowest_engine_speed(v);
     speeds(n, e, e);
 }

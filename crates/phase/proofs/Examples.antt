@@ -1,10 +1,10 @@
--- The stop rule and the clutch at their edges, computed by the definitions themselves. Assumes nothing.
+-- The stop rule at its edges, computed by the definitions themselves. Assumes nothing.
 use mathlib.Core.Path.{_≡_, refl}
 use mathlib.Core.List.{List, [], _∷_}
 use Prim.Native.Nat.{ℕ}
 use lib.ListN.{length}
 use Rattle.row.proofs.Examples.{halt, up, not1, traceOf, rowOf}
-use Rattle.phase.specs.Phase.{firstGear, firstRow, clutchOf}
+use Rattle.phase.specs.Phase.{firstGear, firstRow}
 
 -- the row before corrections of seconds with these flags, whose own gears are all 3
 abbrev Begins : List ℕ → List ℕ → Type 0
@@ -24,8 +24,3 @@ stop-of-six = refl
 two-runs : Begins (halt ∷ not1 halt ∷ halt ∷ up ∷ halt ∷ halt ∷ halt ∷ []) (1 ∷ 1 ∷ 1 ∷ 3 ∷ 1 ∷ 1 ∷ 1 ∷ [])
 unfolding firstRow firstGear
 two-runs = refl
-
--- "the clutch is out exactly below 10.0 km/h", and at a stop whatever its speed
-clutch-below-ten : (clutchOf up 99 ≡ 1) × (clutchOf up 100 ≡ 0) × (clutchOf halt 100 ≡ 1)
-unfolding clutchOf
-clutch-below-ten = (refl, refl, refl)

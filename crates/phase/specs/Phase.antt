@@ -1,12 +1,11 @@
--- 01, Gear of each second, before corrections: the rule of a stop, and the clutch. Seconds count from 0 here.
-use Prim.Native.Nat.{ℕ, _+_, _-_, _*_, _<_}
+-- 01, Gear of each second, before corrections: the rule of a stop. Seconds count from 0 here.
+use Prim.Native.Nat.{ℕ, _-_, _<_}
 use mathlib.Core.Path.{_≡_}
 use mathlib.Core.Bool.{cond}
 use mathlib.Core.List.{List}
-use lib.ListN.{set}
 use lib.Dec.{ltb}
-use Rattle.walk.specs.Walk.{inTurn, scan, pairs}
-use Rattle.house.specs.House.{speedAt, flagsAt, stop, stopAt}
+use Rattle.walk.specs.Walk.{scan, pairs}
+use Rattle.house.specs.House.{flagsAt, stop, stopAt}
 
 -- the end of the run of stop seconds that reaches second k, of n seconds; second k itself where it is no stop
 abbrev pub stopEnd : List ℕ → ℕ → ℕ → ℕ
@@ -26,17 +25,6 @@ firstGear own trace n k = gearBy (flagsAt trace k) (own k) (stopEnd trace n k - 
 -- the row before corrections; its clutch comes last
 unfoldable pub firstRow : (ℕ → ℕ) → List ℕ → ℕ → List ℕ
 firstRow own trace n = pairs (firstGear own trace n) (λ k. 0) n
-
--- "Stop: .. Clutch out." "Outside stop, the clutch is out exactly below 10.0 km/h."
-unfoldable pub clutchOf : ℕ → ℕ → ℕ
-clutchOf flags speed = cond (stop flags) 1 (cond (ltb speed 100) 1 0)
-
--- the clutch of each second, in the finished row
-abbrev pub clutchStep : List ℕ → List ℕ → ℕ → List ℕ
-clutchStep trace row k = set row (2 * k + 1) (clutchOf (flagsAt trace k) (speedAt trace k))
-
-unfoldable pub clutched : List ℕ → List ℕ → ℕ → List ℕ
-clutched trace row n = inTurn (clutchStep trace) row n
 
 -- what is carried from second to second: the end of a stop run, once it is known
 pub record Carried (trace : List ℕ) (n k end : ℕ) : Type 0 where

@@ -1,12 +1,11 @@
-// The gear of each second before corrections, and the clutch (01, Gear of each second). The gears outside stop come from the vehicle's crate; here is
-// no vehicle.
+// The gear of each second before corrections (01, Gear of each second). The gears outside stop come from the vehicle's crate; here is no vehicle.
 ghost use mathlib.Core.Path.{_≡_};
 ghost use mathlib.Core.List.{_++_};
 ghost use Prim.Native.Nat.{_*_, _≤_};
 ghost use lib.ListN.{length, getD, drop};
 ghost use Rattle.house.specs.House.{Lasts};
 ghost use Rattle.row.specs.Row.{HaveSeconds};
-ghost use Rattle.phase.specs.Phase.{stopEnd, stopGear, gearBy, firstRow, clutchOf, clutched, Carried};
+ghost use Rattle.phase.specs.Phase.{stopEnd, stopGear, gearBy, firstRow, Carried};
 
 // The end of the stop run that reaches second k.
 fn stop_end(trace: &[u8], n: usize, k: usize) -> usize
@@ -62,27 +61,6 @@ pub fn first_row(trace: &[u8], own: &[u8], row: &mut [u8], n: usize)
         end = stop_end_from(trace, n, k, end);
         row[2 * k] = first_gear(house::flags_at(trace, k), own[k], end - k);
         row[2 * k + 1] = 0;
-        k += 1;
-    }
-}
-
-pub fn clutch_of(flags: u8, speed: usize) -> u8
-    ensures { λ r. ⌜ r ≡ clutchOf flags speed ⌝ }
-{
-    if house::is_stop(flags) {
-        return 1;
-    }
-    if speed < 100 { 1 } else { 0 }
-}
-
-// The clutch of each second.
-pub fn set_clutch(trace: &[u8], row: &mut [u8], n: usize)
-    requires { ⌜ HaveSeconds (now trace) (now row) n ⌝ }
-    ensures { λ _. ⌜ now (row .exit) ≡ clutched (now (trace .entry)) (now (row .entry)) n ⌝ }
-{
-    let mut k = 0;
-    while k < n {
-        row[2 * k + 1] = clutch_of(house::flags_at(trace, k), house::speed_at(trace, k));
         k += 1;
     }
 }

@@ -15,8 +15,9 @@ use Rattle.arith.proofs.Parts.{zs, sub-parts}
 use Rattle.arith.proofs.Ring.{mul-add, mul-sub, mul-neg, one-mul, mul-one, mul-mono, mul-mono-<, sub-mono, products, <-≤}
 use Rattle.vehicle.specs.declared.VehicleSheet.{VehicleSheet}
 use Rattle.vehicle.specs.Sheet.{ndvAt, Sound}
+use Rattle.vehicle.specs.Engine.{engineSpeed, lowestEngineSpeed, belowLowest}
 use Rattle.shift.specs.Speeds.{powerOf, sideUnit, sideOf, share, tenth, firstSide, higherSide, leftOf}
-use Rattle.shift.specs.Exact.{aboveIdle, exactFirst, exactHigher, exactUpshift, exactSpeed, fromUnits, less, Compared}
+use Rattle.shift.specs.Exact.{aboveIdle, exactFirst, exactHigher, exactUpshift, exactSpeed, exactEngineSpeed, exactLowest, fromUnits, less, Compared}
 use Rattle.shift.proofs.Sides.{exponent}
 use Rattle.shift.proofs.ExactTerms.{exponential-ordered}
 
@@ -128,6 +129,17 @@ module _ {side : ℤ} {engine : Fraction} (t : Tied side engine) (ndv : ℕ) whe
 
 -- ---- of an accepted sheet
 module _ {v : VehicleSheet} (sound : Sound v) where
+  -- an engine speed is below the lowest in whole numbers where it is as fractions: both sides are 100 times those
+  pub lowest-exactly : (gear speed : ℕ) → belowLowest v gear speed ≡ less (exactEngineSpeed v gear speed) (exactLowest v)
+  unfolding belowLowest
+  lowest-exactly gear speed =
+      let n = v .idle in
+      let w = v .rated - v .idle in
+      let side : 100 * (1000 * n + 30 * w) ≡ 1000 * (100 * n + 1 * (3 * w)) = omega arith in
+      subst (λ (q : Fraction). belowLowest v gear speed ≡ less (exactEngineSpeed v gear speed) (whole (pos n) +ᶠ decimal (pos 3) 100 *ᶠ q)) (sym (above-idle sound))
+      (test-times (pos 100) (pos (engineSpeed v gear speed)) (pos (lowestEngineSpeed v)) (omega zs)
+      ∙ ap (λ (m : ℕ). ltZ (pos (100 * engineSpeed v gear speed)) (pos m)) side)
+
   higher-tied : (end : ℤ) → Tied (higherAt (v .rated - v .idle) (v .idle) end) (exactHigher v (fromUnits end))
   unfolding exactHigher higherAt
   higher-tied end =

@@ -1,4 +1,5 @@
--- 01, Shift speeds: the upshift speeds in km/h as they are written there, as fractions, from any e; and what a comparison in whole numbers says of them.
+-- 01, Shift speeds: the upshift speeds in km/h as they are written there, as fractions, from any e; the lowest engine speed of 001; and what a comparison
+-- in whole numbers says of them.
 -- Gears count from 0 here.
 use mathlib.Core.Path.{_≡_}
 use mathlib.Core.Bool.{Bool, cond}
@@ -9,6 +10,7 @@ use lib.Signed.{_<ℤ_, ltZ}
 use Rattle.arith.specs.Fraction.{Fraction, whole, decimal, _+ᶠ_, _-ᶠ_, _*ᶠ_, _/ᶠ_}
 use Rattle.vehicle.specs.declared.VehicleSheet.{VehicleSheet}
 use Rattle.vehicle.specs.Sheet.{ndvAt}
+use Rattle.vehicle.specs.Engine.{ndvOf}
 use Rattle.shift.specs.Speeds.{powerOf, firstSide, higherSide, sideAt, below, above}
 
 -- an end of e, which is "in units of 1/2^32"
@@ -36,6 +38,15 @@ exactUpshift v e i = cond (eqb i 0) (exactFirst v e) (exactHigher v e) /ᶠ deci
 -- a second's "speed in 0.1 km/h"
 abbrev pub exactSpeed : ℕ → Fraction
 exactSpeed speed = decimal (pos speed) 10
+
+-- ---- the lowest engine speed, per minute
+-- of a second in a gear: speed times ndv
+abbrev pub exactEngineSpeed : VehicleSheet → ℕ → ℕ → Fraction
+exactEngineSpeed v gear speed = exactSpeed speed *ᶠ decimal (pos (ndvOf (v .ndv) gear)) 100
+
+-- 001, 6.5.5.2.1.3: "n + 0.03 (s - n)"
+abbrev pub exactLowest : VehicleSheet → Fraction
+exactLowest v = whole (pos (v .idle)) +ᶠ decimal (pos 3) 100 *ᶠ aboveIdle v
 
 -- p < q, of fractions with positive denominators, said without a division
 abbrev pub less : Fraction → Fraction → Bool

@@ -1,11 +1,14 @@
--- A vehicle sheet at the edges of its ranges, judged by the definitions themselves. Assumes nothing.
+-- A vehicle sheet at the edges of its ranges, and engine speeds at the lowest, by the definitions themselves. Assumes nothing.
 use mathlib.Core.Path.{_≡_, refl}
+use mathlib.Core.Bool.{true, false}
 use mathlib.Core.List.{List, [], _∷_}
 use Prim.Native.Nat.{ℕ}
 use Rattle.refusal.specs.declared.Judged.{Judged}
 use Rattle.refusal.specs.declared.Judged.the-variants.{Accepted, Refused}
 use Rattle.refusal.specs.declared.Refusal.the-variants.{Vehicle, Ratio, PowerToMass}
+use Rattle.vehicle.specs.declared.VehicleSheet.{VehicleSheet}
 use Rattle.vehicle.specs.Sheet.{judgeVehicle}
+use Rattle.vehicle.specs.Engine.{engineSpeed, lowestEngineSpeed, belowLowest}
 
 -- three gears: what stands behind them is not read
 abbrev sheet : ℕ → ℕ → ℕ → ℕ → List ℕ → Judged
@@ -32,3 +35,33 @@ gears-in-range = (refl, refl)
 gears-falling : (sheet 1 30 1000 300 (1001 ∷ 1001 ∷ 1000 ∷ []) ≡ Refused (Ratio 2)) × (sheet 1 30 1000 300 (1002 ∷ 1001 ∷ 1001 ∷ []) ≡ Refused (Ratio 3))
 unfolding judgeVehicle
 gears-falling = (refl, refl)
+
+-- Annex 13's machine (table A13-1)
+abbrev pub annex : VehicleSheet
+annex =
+    record {
+      power = 720;
+      mass = 199;
+      rated = 11800;
+      idle = 1150;
+      gears = 6;
+      ndv = 13366 ∷ 9491 ∷ 7616 ∷ 6569 ∷ 5885 ∷ 5404 ∷ 0 ∷ 0 ∷ [];
+    }
+
+-- table A13-3, "2 to cl": 1,470 per minute, which is 1,469.5, and from 15.5 km/h on second gear has it
+lowest : (lowestEngineSpeed annex ≡ 1469500) × (engineSpeed annex 2 155 ≡ 1471105) × (belowLowest annex 2 154 ≡ true) × (belowLowest annex 2 155 ≡ false)
+unfolding belowLowest
+lowest = (refl, refl, refl, refl)
+
+-- a machine whose n + 0.03 (s - n) is 1,120 per minute, with 80.00 per km/h in second gear: 14.0 km/h is exactly that, and not below
+abbrev pub round : VehicleSheet
+round = record { power = 300; mass = 200; rated = 5000; idle = 1000; gears = 3; ndv = 12000 ∷ 8000 ∷ 6000 ∷ [] }
+
+at-equality : (belowLowest round 2 139 ≡ true) × (belowLowest round 2 140 ≡ false)
+unfolding belowLowest
+at-equality = (refl, refl)
+
+-- neutral, and what is no gear
+no-gear : (belowLowest round 0 2000 ≡ true) × (belowLowest round 9 2000 ≡ true)
+unfolding belowLowest
+no-gear = (refl, refl)

@@ -1,13 +1,14 @@
-// The vehicle sheet (01, Shift speeds), judged: refusals 5, 6 and 7.
+// The vehicle sheet (01, Shift speeds), judged: refusals 5, 6 and 7; and the lowest engine speed that drives.
 use refusal::Judged;
 use refusal::Refusal;
 ghost use mathlib.Core.Path.{_≡_};
 ghost use mathlib.Core.Bool.{_&&_};
-ghost use Prim.Native.Nat.{_+_, _<_};
+ghost use Prim.Native.Nat.{_+_, _≤_, _<_};
 ghost use lib.Dec.{leb};
 ghost use Rattle.refusal.specs.Ranges.{within};
 ghost use Rattle.refusal.specs.Judging.{checked, judgedBy};
 ghost use Rattle.refusal.specs.declared.Refusal.the-variants.{Vehicle};
+ghost use Rattle.vehicle.specs.Engine.{ndvOf, lowestEngineSpeed, belowLowest};
 ghost use Rattle.vehicle.specs.Sheet.{engineChecks, gearGood, gearRefusal, judgeGears, judgeVehicle, Reach};
 
 // Power in 0.1 kW, mass in kg, rated and idle speed per minute, and of each gear ndv in 0.01 per minute per km/h. Only the first `gears` of them are
@@ -115,4 +116,35 @@ pub fn judge(v: VehicleSheet) -> Judged
         Refusal::PowerToMass,
         Judged::Accepted,
     )
+}
+
+// The ndv of a gear as a row names it; 0 for neutral, and for what is no gear.
+fn ndv_of(ndv: [u32; 8], gear: u8) -> u32
+    ensures { λ r. ⌜ r ≡ ndvOf ndv gear ⌝ }
+{
+    let i = gear as usize;
+    if (1 <= i) & (i <= 8) {
+        return ndv[i - 1];
+    }
+    0
+}
+
+// n + 0.03 (s - n), in 0.001 per minute (001, 6.5.5.2.1.3).
+pub fn lowest_engine_speed(v: VehicleSheet) -> u64
+    requires { ⌜ v .idle ≤ v .rated ⌝ }
+    ensures { λ r. ⌜ r ≡ lowestEngineSpeed v ⌝ }
+{
+    let idle = v.idle as u64;
+    let rated = v.rated as u64;
+    1000 * idle + 30 * (rated - idle)
+}
+
+// A speed in 0.1 km/h turns the engine slower than that in this gear.
+pub fn below_lowest(v: VehicleSheet, gear: u8, speed: u32) -> bool
+    requires { ⌜ v .idle ≤ v .rated ⌝ }
+    ensures { λ r. ⌜ r ≡ belowLowest v gear speed ⌝ }
+{
+    let ndv = v.ndv;
+    let ratio = ndv_of(ndv, gear) as u64;
+    (speed as u64) * ratio < lowest_engine_speed(v)
 }

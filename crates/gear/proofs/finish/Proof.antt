@@ -4,7 +4,7 @@ use mathlib.Core.List.{List}
 use Prim.Native.Nat.{ℕ}
 use borrow.Author.Needs.{needs}
 use Rattle.runs.specs.Corrected.{corrected}
-use Rattle.phase.specs.Phase.{clutched}
+use Rattle.clutch.specs.Clutch.{clutchBy, withClutch}
 use Rattle.gear.proofs.Buffer.{exact}
 use Rattle.gear.proofs.finish.Statement.{statement}
 use Rattle.gear.proofs.finish.Tie as tie
@@ -17,9 +17,9 @@ returns c =
     let start = at1 .before .before .before .before .before in
     let trace = start .args .trace .now in
     let n = start .args .n in
-    at3 .set-clutch .ensures ∙ ap (λ (row : List ℕ). clutched trace row n)
+    at3 .set-clutch .ensures ∙ ap (λ (row : List ℕ). withClutch (clutchBy (start .args .v) trace) row n)
     (at2 .correct .ensures ∙ ap (λ (row : List ℕ). corrected trace row n)
-    (at1 .first-row .ensures ∙ exact _ _ _ (start .pre .1)))
+    (at1 .first-row .ensures ∙ exact _ _ _ (start .pre .2)))
 
 pub finish-spec : {M : Type 1} → statement M
 finish-spec =

@@ -9,7 +9,6 @@ use lib.ListN.{length, take, length-take, length-drop}
 use borrow.Author.Needs.{needs}
 use Rattle.refusal.specs.declared.Judged.the-variants.{Accepted}
 use Rattle.house.specs.House.{countOf}
-use Rattle.shift.specs.Speeds.{shiftOf}
 use Rattle.gear.specs.Sheet.{judgeSheet, ifAccepted, withRow}
 use Rattle.gear.proofs.Buffer.{part-whole, part-back}
 use Rattle.gear.proofs.Sheet.{Sound, sheet-sound, sheet-ready, answer-by, buffer-refused, buffer-back}
@@ -38,32 +37,25 @@ sound c = sheet-sound _ _ _ _ (accepted c)
 count-of-requires : tie.Need-count-of-requires
 count-of-requires c κs = omega (arith, sound c .of-trace .exact)
 
-shift-of-requires : tie.Need-shift-of-requires
-shift-of-requires c κs = sound (c .before) .of-vehicle
-
--- the stages' numbers are the definitions'
-abbrev told : tie.After-shift-of → tie.After-enum-told
-told c = c .before .before
-
 fill-requires : tie.Need-fill-requires
 fill-requires c κs =
-    let w = c .before in
-    let s = sound (told w) in
-    let n = w .before .count-of .ensures .0 in
-    (rw (w .shift-of .ensures, n) (sheet-ready s), simp (length-take, length-drop) (omega (arith, n, s .from, s .fits)))
+    let counted = c .before in
+    let s = sound (counted .before) in
+    let n = counted .count-of .ensures .0 in
+    (s .of-vehicle, rw n (sheet-ready s), simp (length-take, length-drop) (omega (arith, n, s .from, s .fits)))
 
 returns-2 : tie.Need-returns-2
 returns-2 c =
     let lent = c .before .before in
-    let w = lent .before .before in
-    let a = start (told w) .args in
+    let counted = lent .before .before in
+    let a = start (counted .before) .args in
     let trace = now (a .trace) in
     let buffer = now (a .buffer) in
-    let n = w .before .count-of .ensures .0 in
-    let close = rw (w .shift-of .ensures, n) at (lent .fill .ensures .0) in
-    let answer = close ∙ sym (answer-by trace (a .v) buffer (a .start) (accepted (told w))) in
-    let filled = rw (w .shift-of .ensures, n) at (lent .fill .ensures .1) in
-    let row-in : List ℕ → List ℕ = λ part. ifAccepted (lent .fill .result) (withRow (shiftOf (a .v)) trace (countOf trace) part) part in
+    let n = counted .count-of .ensures .0 in
+    let close = rw n at (lent .fill .ensures .0) in
+    let answer = close ∙ sym (answer-by trace (a .v) buffer (a .start) (accepted (counted .before))) in
+    let filled = rw n at (lent .fill .ensures .1) in
+    let row-in : List ℕ → List ℕ = λ part. ifAccepted (lent .fill .result) (withRow (a .v) trace (countOf trace) part) part in
     let part = filled ∙ ap row-in (part-whole buffer (a .start)) in
     let back = part-back buffer (lent .fill .last .1 .1 .0) (a .start) ∙ ap (λ (l : List ℕ). take (a .start) buffer ++ l) part in
     (answer, back ∙ buffer-back trace (a .v) buffer (a .start) answer)
@@ -77,9 +69,8 @@ write-gears-spec =
     (λ c. search needs)
     returns
     count-of-requires
-    shift-of-requires
-    (λ c. omega (arith, sound (c .before .before) .from))
-    (λ c. omega (arith, sound (c .before .before) .from))
+    (λ c. omega (arith, sound (c .before) .from))
+    (λ c. omega (arith, sound (c .before) .from))
     (λ c. search needs)
     fill-requires
     (λ c. search needs)
