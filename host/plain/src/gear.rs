@@ -215,9 +215,23 @@ fn correction_6(seconds: &[Second], row: &mut [u8]) {
     }
 }
 
-/// "Outside stop, the clutch is out exactly below 10.0 km/h"; at a stop it is out.
-fn clutch(second: &Second) -> u8 {
-    u8::from(second.is_stop() || second.speed < 100)
+/// "n + 0.03 (s - n)", the engine speed 3 per cent of the way from n to s, as "1,000 n + 30 (s - n)": in 0.001 per minute, which is what "speed in tenths x
+/// ndv in hundredths" counts.
+///
+/// ```
+/// use plain::gear::{three_per_cent, Vehicle};
+/// let vehicle = Vehicle { p: 300, m: 200, s: 8000, n: 1200, ng: 3, ndv: [20_000, 12_000, 9_000, 0, 0, 0, 0, 0] };
+/// assert_eq!(three_per_cent(&vehicle), 1_404_000);
+/// ```
+pub fn three_per_cent(v: &Vehicle) -> u32 {
+    1000 * v.n + 30 * (v.s - v.n)
+}
+
+/// "Outside stop, the clutch is out exactly below 10.0 km/h" (01), and "also out when engine speed in the final gear is below n + 0.03 (s - n) ... At
+/// equality it stays in. The 10 km/h rule remains" (02, M-100). At a stop it is out. The final gear of a second outside stop is 1 to ng.
+fn clutch(v: &Vehicle, second: &Second, gear: u8) -> u8 {
+    let slow_engine = || second.speed * v.ndv[usize::from(gear) - 1] < three_per_cent(v);
+    u8::from(second.is_stop() || second.speed < 100 || slow_engine())
 }
 
 /// The gear and clutch of every second into the buffer from the start on; or the first refusal, and the buffer as it was lent.
@@ -244,21 +258,27 @@ pub fn write_gears(file: &[u8], vehicle: &Vehicle, buffer: &mut [u8], start: usi
         correction(&seconds, &mut row);
     }
     for ((out, gear), second) in buffer[start..].chunks_mut(2).zip(row).zip(&seconds) {
-        out.copy_from_slice(&[gear, clutch(second)]);
+        out.copy_from_slice(&[gear, clutch(vehicle, second, gear)]);
     }
     Ok(())
 }
 
 #[cfg(test)]
 mod known_rows {
-    //! 01's rows of correction 6, and tables A13-2 and A13-3 of document 001 (24.9 and 34.9 per cent: docs/DECISIONS.md).
+    //! 01's rows of correction 6, the clutch, and tables A13-2 and A13-3 of document 001 (24.9 and 34.9 per cent: docs/DECISIONS.md).
 
     use super::*;
 
+    /// Table A13-1.
+    const MACHINE: Vehicle = Vehicle { p: 720, m: 199, s: 11_800, n: 1150, ng: 6, ndv: [13_366, 9491, 7616, 6569, 5885, 5404, 0, 0] };
+
+    fn second(phase: Phase, speed: u32) -> Second {
+        Second { speed, phase, no_gear_shift: false, no_first_gear: false }
+    }
+
     fn corrected(gears: &[u8]) -> Vec<u8> {
-        let cruise = Second { speed: 500, phase: Phase::Cruise, no_gear_shift: false, no_first_gear: false };
         let mut row = gears.to_vec();
-        correction_6(&vec![cruise; gears.len()], &mut row);
+        correction_6(&vec![second(Phase::Cruise, 500); gears.len()], &mut row);
         row
     }
 
@@ -276,10 +296,9 @@ mod known_rows {
 
     #[test]
     fn annex_13() {
-        let machine = Vehicle { p: 720, m: 199, s: 11_800, n: 1150, ng: 6, ndv: [13_366, 9491, 7616, 6569, 5885, 5404, 0, 0] };
-        let (unit, band) = (10_000 * ONE, i128::from(machine.s - machine.n));
-        let shift = speeds(&machine);
-        let printed = shift_speeds(&machine).unwrap();
+        let (unit, band) = (10_000 * ONE, i128::from(MACHINE.s - MACHINE.n));
+        let shift = speeds(&MACHINE);
+        let printed = shift_speeds(&MACHINE).unwrap();
         assert!(printed.iter().map(|speed| in_tenths(speed.lower, 1000)).eq([285, 513, 639, 741, 827]));
         assert!(printed.iter().map(|speed| in_tenths(speed.upper, 1000)).eq([285, 513, 639, 741, 827]));
         for sides in [&shift.lower, &shift.upper] {
@@ -287,12 +306,53 @@ mod known_rows {
             assert_eq!([0, 1, 2, 3, 4].map(speed), [285, 513, 639, 741, 827]);
             // the engine speed in gear i where the upshift speed of gear j is driven, and its share of the band in per mille
             let engine = |j: usize, i: usize| {
-                let (over, under) = (sides[j] * i128::from(machine.ndv[i]), shift.ndv[j] * unit);
+                let (over, under) = (sides[j] * i128::from(MACHINE.ndv[i]), shift.ndv[j] * unit);
                 let per_minute = (2 * over + under).div_euclid(2 * under);
-                (per_minute, in_tenths(100 * (over - i128::from(machine.n) * under), band * under))
+                (per_minute, in_tenths(100 * (over - i128::from(MACHINE.n) * under), band * under))
             };
             assert_eq!([engine(0, 0), engine(1, 1)], [(3804, 249), (4869, 349)]);
             assert_eq!([engine(0, 2), engine(1, 3), engine(2, 4), engine(3, 5)], [(2167, 96), (3370, 208), (3762, 245), (4005, 268)]);
         }
+    }
+
+    /// The phases that a clutch rule is for.
+    const MOVING: [Phase; 3] = [Phase::Acceleration, Phase::Cruise, Phase::Deceleration];
+
+    /// Table A13-3, "2 -> cl": 15.5 km/h, 3.0 per cent, 1,470 per minute.
+    #[test]
+    fn annex_13_clutch() {
+        let line = i128::from(three_per_cent(&MACHINE));
+        assert_eq!(in_tenths(line, 10 * i128::from(MACHINE.ndv[1])), 155);
+        assert_eq!(in_tenths(100 * (line - 1000 * i128::from(MACHINE.n)), 1000 * i128::from(MACHINE.s - MACHINE.n)), 30);
+        assert_eq!(in_tenths(line, 10_000), 1470);
+        for phase in MOVING {
+            let out = |speed: u32, gear: u8| clutch(&MACHINE, &second(phase, speed), gear) == 1;
+            assert!(out(154, 2) && !out(155, 2));
+            assert!(out(192, 3) && !out(193, 3), "1,469.5 over 76.16 is 19.295");
+            assert!(out(109, 1) && !out(110, 1), "1,469.5 over 133.66 is 10.994");
+        }
+    }
+
+    /// 1,000 x 1,000 + 30 x 10,000 is 130 x 10,000: at 13.0 km/h the engine speed of gear 2 is the line itself, and the clutch stays in.
+    #[test]
+    fn clutch_at_equality() {
+        let vehicle = Vehicle { s: 11_000, n: 1000, ndv: [13_001, 10_000, 9999, 5000, 4000, 3000, 0, 0], ..MACHINE };
+        assert_eq!(three_per_cent(&vehicle), 130 * 10_000);
+        for phase in MOVING {
+            let clutch = |speed: u32, gear: u8| clutch(&vehicle, &second(phase, speed), gear);
+            assert_eq!([129, 130, 131].map(|speed| clutch(speed, 2)), [1, 0, 0]);
+            assert_eq!([130, 131].map(|speed| clutch(speed, 3)), [1, 0]);
+        }
+    }
+
+    /// In gear 1 of this vehicle the engine is faster than the line from 1.5 km/h on.
+    #[test]
+    fn clutch_below_10_km_an_hour() {
+        let vehicle = Vehicle { ndv: [100_000, 9491, 7616, 6569, 5885, 5404, 0, 0], ..MACHINE };
+        for phase in MOVING {
+            assert_eq!([15, 99, 100, 101].map(|speed| clutch(&vehicle, &second(phase, speed), 1)), [1, 1, 0, 0]);
+        }
+        assert_eq!([0, 100, 2000].map(|speed| clutch(&vehicle, &second(Phase::Stop, speed), 1)), [1, 1, 1]);
+        assert_eq!(clutch(&vehicle, &second(Phase::Stop, 2000), 0), 1);
     }
 }
