@@ -206,8 +206,14 @@ fn correction_6(seconds: &[Second], row: &mut [u8]) {
     }
 }
 
-fn clutch(second: Second) -> u8 {
-    u8::from(is_stop(second) || speed(second) < 100)
+/// n + 0.03 (s - n) in 0.001 per minute.
+fn three_per_cent(v: &Vehicle) -> u32 {
+    1000 * v.idle + 30 * (v.rated - v.idle)
+}
+
+/// The clutch of a second with the ratio of its final gear, by the engine speed that it must reach.
+fn clutch(second: Second, ndv: u32, least: u32) -> u8 {
+    u8::from(is_stop(second) || speed(second) < 100 || speed(second) * ndv < least)
 }
 
 /// The gear and clutch of every second into the buffer from the start on; or the first refusal, and the buffer as it was lent.
@@ -229,8 +235,11 @@ pub fn write_gears(trace: &[u8], vehicle: &Vehicle, buffer: &mut [u8], start: us
     correction_4(seconds, row);
     correction_5(seconds, row);
     correction_6(seconds, row);
+    let least = three_per_cent(vehicle);
     for ((out, &gear), &second) in part.as_chunks_mut().0.iter_mut().zip(&*row).zip(seconds) {
-        *out = [gear, clutch(second)];
+        // neutral has no ratio, and stands at stops alone
+        let ndv = vehicle.ndv[usize::from(gear.max(1)) - 1];
+        *out = [gear, clutch(second, ndv, least)];
     }
     Ok(())
 }
