@@ -7,7 +7,7 @@ use ylhovesko::gear::Vehicle;
 
 use crate::pairs::Pair;
 use crate::random::Random;
-use crate::{core_told, hex, plain_told, unhex, Told};
+use crate::{core_told, hex, plain_told, stored, unhex, Told};
 
 /// A call of the gear sheet. The buffer's bytes are noise, so that a byte written where none should be is seen.
 #[derive(Clone, PartialEq, Eq)]
@@ -59,6 +59,16 @@ pub fn read(line: u64, text: &str) -> (Case, Answer) {
 pub fn answer_text(case: &Case, (told, written): &Answer) -> String {
     let row = if told[0] == 0 { &written[case.start..case.start + (case.trace.len() - 8) / 2] } else { &[] };
     format!("{} {} {}", told[0], told[1], hex(row))
+}
+
+/// A file of stored cases with what the second implementation says of each.
+pub fn answered_anew(text: &str) -> String {
+    let anew = |(line, text)| {
+        let (case, _) = read(line, text);
+        format!("{case} {}\n", answer_text(&case, &by_plain(&case)))
+    };
+    let head = text.lines().take_while(|line| line.starts_with('#')).map(|line| format!("{line}\n"));
+    head.chain(stored(text).map(anew)).collect()
 }
 
 /// What the proved core says, and the buffer after it.

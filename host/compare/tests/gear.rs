@@ -2,21 +2,56 @@
 
 use std::collections::BTreeMap;
 
-use compare::gear::{by_core, by_plain, case, pair, read};
+use compare::gear::{by_core, by_plain, case, pair, read, Answer, Case};
 use compare::{cases, pairs, stored};
 use plain::gear::exponential;
 
-/// Every line of vectors/gear.txt: the number, the place and every byte of the buffer.
-#[test]
-fn stored_cases() {
-    let mut lines = 0;
-    for (line, text) in stored(include_str!("../../vectors/gear.txt")) {
+const GEAR: &str = include_str!("../../vectors/gear.txt");
+const BY_01: &str = include_str!("../../vectors/gear_by_01.txt");
+const M_100: &str = include_str!("../../vectors/M-100-gear.txt");
+
+/// Every line of a file of stored cases: the number, the place and every byte of the buffer.
+fn both_answer(text: &str, lines: usize) {
+    for (line, text) in stored(text) {
         let (case, answer) = read(line, text);
         assert_eq!(by_plain(&case), answer, "plain, line {line}");
         assert_eq!(by_core(&case), answer, "core, line {line}");
-        lines += 1;
     }
-    assert_eq!(lines, 500);
+    assert_eq!(stored(text).count(), lines);
+}
+
+#[test]
+fn stored_cases() {
+    both_answer(GEAR, 500);
+}
+
+/// The cases that came with the request.
+#[test]
+fn stored_cases_of_m_100() {
+    both_answer(M_100, 300);
+}
+
+/// How many clutch bytes of the row went from in to out. No other byte may have changed.
+fn taken_out(case: &Case, by_01: &Answer, now: &Answer) -> usize {
+    let row = if by_01.0[0] == 0 { (case.trace.len() - 8) / 2 } else { 0 };
+    let is_clutch = |at: usize| (case.start..case.start + row).contains(&at) && (at - case.start) % 2 == 1;
+    assert_eq!((by_01.0, by_01.1.len()), (now.0, now.1.len()), "{case}");
+    let changed: Vec<usize> = (0..now.1.len()).filter(|&at| by_01.1[at] != now.1[at]).collect();
+    assert!(changed.iter().all(|&at| is_clutch(at) && (by_01.1[at], now.1[at]) == (0, 1)), "{case}");
+    changed.len()
+}
+
+/// vectors/gear_by_01.txt has the clutch by 01's rule alone. The same cases have the same refusals, places and gears now, and a clutch that was out is out.
+#[test]
+fn m_100_takes_clutches_out_and_nothing_else() {
+    let mut out = Vec::new();
+    for ((line, by_01), (same_line, now)) in stored(BY_01).zip(stored(GEAR)) {
+        let ((case, by_01), (same, now)) = (read(line, by_01), read(line, now));
+        assert!(line == same_line && case == same, "line {line}");
+        out.push(taken_out(&case, &by_01, &now));
+    }
+    // the cases, those with a clutch that went out, and how many did
+    assert_eq!((out.len(), out.iter().filter(|&&bytes| bytes > 0).count(), out.iter().sum()), (500, 37, 203));
 }
 
 /// Random cases, YLHOVESKO_CASES of them. A difference is shown as a line of vectors/gear.txt, with the case's seed.
