@@ -2,7 +2,7 @@
 
 use std::fmt;
 
-use plain::gear::{speeds, Speeds};
+use plain::gear::{speeds, three_per_cent, Speeds};
 use ylhovesko::gear::Vehicle;
 
 use crate::pairs::Pair;
@@ -155,6 +155,24 @@ fn close_vehicle(random: &mut Random) -> (Vehicle, u32) {
     }
 }
 
+/// A sheet whose every ratio is over some speed the same engine speed: n + 0.03 (s - n) itself, or 0.001 per minute below or above it.
+fn three_per_cent_vehicle(random: &mut Random) -> Vehicle {
+    loop {
+        let mut found = vehicle(random);
+        let product = three_per_cent(&plain_vehicle(&found)) - 1 + random.one_of(&[0, 1, 1, 2]);
+        let over = |speed: u32| product.is_multiple_of(speed).then_some(product / speed);
+        let mut ratios: Vec<u32> = (1..=2000).filter_map(over).filter(|ndv| (1000..=100_000).contains(ndv)).collect();
+        while ratios.len() > 8 {
+            ratios.remove(random.below(ratios.len() as u64) as usize);
+        }
+        if ratios.len() >= 3 {
+            found.gears = random.from(3, ratios.len() as u32);
+            found.ndv[..ratios.len()].copy_from_slice(&ratios);
+            return found;
+        }
+    }
+}
+
 /// One number of the sheet out of its range, out of order, or anything.
 fn damage_vehicle(random: &mut Random, v: &mut Vehicle) {
     let gear = random.below(8) as usize;
@@ -184,6 +202,13 @@ fn shift_tenths(shift: &Speeds) -> Vec<u32> {
     let around = |gear: usize| (-1..=2).map(move |step| last_below(gear) + step);
     let all = (0..shift.ndv.len()).flat_map(around);
     all.filter(|tenth| (0..=2000).contains(tenth)).map(|tenth| tenth as u32).collect()
+}
+
+/// The tenths just below, at and just above n + 0.03 (s - n) in every gear, from 10.0 km/h on and as far as a trace can hold them.
+fn three_per_cent_tenths(v: &Vehicle) -> Vec<u32> {
+    let first_at = |ndv: &u32| three_per_cent(&plain_vehicle(v)).div_ceil(*ndv);
+    let around = v.ndv[..v.gears as usize].iter().map(first_at).flat_map(|tenth| [tenth - 1, tenth, tenth + 1]);
+    around.filter(|tenth| (100..=2000).contains(tenth)).collect()
 }
 
 /// How the seconds of a case are made: which speeds it prefers, how often they change, and how many marks it has.
@@ -284,15 +309,20 @@ fn room(random: &mut Random, seconds: usize) -> (usize, usize) {
 pub fn case(seed: u64) -> Case {
     let mut random = Random::new(seed);
     let random = &mut random;
-    let (mut vehicle, close) = if random.once_in(10) {
-        let (vehicle, speed) = close_vehicle(random);
-        (vehicle, Some(speed))
-    } else {
-        (vehicle(random), None)
+    let (mut vehicle, close) = match random.below(20) {
+        0 | 1 => {
+            let (vehicle, speed) = close_vehicle(random);
+            (vehicle, Some(speed))
+        }
+        2..=4 => (three_per_cent_vehicle(random), None),
+        _ => (vehicle(random), None),
     };
     let mut preferred = shift_tenths(&speeds(&plain_vehicle(&vehicle)));
     if random.once_in(4) {
         preferred.truncate(4);
+    }
+    if random.once_in(2) {
+        preferred.extend(three_per_cent_tenths(&vehicle));
     }
     let style = Style { preferred, steady: random.below(9), marks: random.one_of(&[0, 0, 2, 8]) };
     let count = count(random);

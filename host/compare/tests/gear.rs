@@ -2,9 +2,9 @@
 
 use std::collections::BTreeMap;
 
-use compare::gear::{by_core, by_plain, case, pair, read, Answer, Case};
+use compare::gear::{by_core, by_plain, case, pair, plain_vehicle, read, Answer, Case};
 use compare::{cases, pairs, stored};
-use plain::gear::exponential;
+use plain::gear::{exponential, three_per_cent};
 
 const GEAR: &str = include_str!("../../vectors/gear.txt");
 const BY_01: &str = include_str!("../../vectors/gear_by_01.txt");
@@ -54,20 +54,36 @@ fn m_100_takes_clutches_out_and_nothing_else() {
     assert_eq!((out.len(), out.iter().filter(|&&bytes| bytes > 0).count(), out.iter().sum()), (500, 37, 203));
 }
 
+/// How far above n + 0.03 (s - n) the engine is in each second outside stop from 10.0 km/h on, in 0.001 per minute; 2 stands for more, and -2 for less.
+fn above_three_per_cent(case: &Case, (told, written): &Answer) -> Vec<i32> {
+    if told[0] != 0 {
+        return Vec::new();
+    }
+    let line = three_per_cent(&plain_vehicle(&case.vehicle)) as i32;
+    let seconds = case.trace[8..].chunks(4).zip(written[case.start..].chunks(2));
+    let moving = seconds.filter(|(second, _)| second[2] & 3 != 0);
+    let speeds = moving.map(|(second, row)| (i32::from(u16::from_le_bytes([second[0], second[1]])), usize::from(row[0])));
+    let engine = speeds.filter(|&(speed, _)| speed >= 100).map(|(speed, gear)| speed * case.vehicle.ndv[gear - 1] as i32);
+    engine.map(|engine| (engine - line).clamp(-2, 2)).collect()
+}
+
 /// Random cases, YLHOVESKO_CASES of them. A difference is shown as a line of vectors/gear.txt, with the case's seed.
 #[test]
 fn random_cases() {
-    let mut seen = BTreeMap::new();
+    let (mut seen, mut above) = (BTreeMap::new(), BTreeMap::new());
     for seed in 0..cases("YLHOVESKO_CASES", 100_000) {
         let case = case(seed);
         let core = by_core(&case);
         assert!(core == by_plain(&case), "seed {seed}: {case}\ncore  {core:?}\nplain {:?}", by_plain(&case));
         *seen.entry(core.0[0]).or_insert(0) += 1;
+        above_three_per_cent(&case, &core).into_iter().for_each(|step| *above.entry(step).or_insert(0) += 1);
     }
-    println!("cases by refusal number: {seen:?}");
+    println!("cases by refusal number: {seen:?}; seconds above n + 0.03 (s - n), in 0.001 per minute: {above:?}");
     if seen.values().sum::<u64>() >= 100_000 {
         assert!(seen[&0] >= 40_000, "too few are accepted: {seen:?}");
         assert!((1..=9).all(|number| seen.get(&number).is_some_and(|&count| count >= 100)), "a refusal is hardly met: {seen:?}");
+        let enough = [(-2, 100_000), (-1, 200), (0, 1000), (1, 200), (2, 100_000)];
+        assert!(enough.iter().all(|(step, least)| above.get(step).is_some_and(|count| count >= least)), "a side is hardly met: {above:?}");
     }
 }
 
