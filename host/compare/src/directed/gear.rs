@@ -6,12 +6,12 @@ use crate::gear::{answer_text, by_plain, house_file, Case};
 use crate::random::Random;
 use crate::Told;
 
-/// A case, what is to be seen in it, and what 01 says of it: the refusal, and the gears where they are worked out by hand.
+/// A case, what is to be seen in it, and what 01 and 02 say of it: the refusal, and the row where its gears are worked out by hand.
 pub struct Directed {
     pub words: String,
     pub case: Case,
     pub told: Told,
-    pub gears: Option<Vec<u8>>,
+    pub row: Option<Vec<u8>>,
 }
 
 /// Eight gears whose upshift speeds are 14.4, 25.0, 33.8, 42.2, 51.9, 61.4 and 71.1 km/h, so that at 10 g km/h an acceleration second has gear g and
@@ -74,22 +74,43 @@ pub(super) fn row(number: u32, at: u32) -> String {
     }
 }
 
+/// At a stop the clutch is out; else "exactly below 10.0 km/h" (01), and below n + 0.03 (s - n) in the final gear (02, M-100), which is 100 n + 3 (s - n) in
+/// 0.01 per minute.
+fn clutch(v: &Vehicle, second: &[u8], gear: u8) -> u8 {
+    let speed = u32::from(second[0]) + 256 * u32::from(second[1]);
+    let below = |gear: u8| speed * v.ndv[usize::from(gear) - 1] < 10 * (100 * v.idle + 3 * (v.rated - v.idle));
+    u8::from(second[2] & 3 == 0 || speed < 100 || below(gear))
+}
+
 #[derive(Default)]
 struct Cases(Vec<Directed>);
 
 impl Cases {
     fn refused(&mut self, number: u32, at: u32, words: &str, case: Case) {
-        self.0.push(Directed { words: format!("{}: {words}", row(number, at)), case, told: [number, at, 0, 0], gears: None });
+        self.0.push(Directed { words: format!("{}: {words}", row(number, at)), case, told: [number, at, 0, 0], row: None });
     }
 
     fn taken(&mut self, words: &str, case: Case) {
-        self.0.push(Directed { words: format!("taken: {words}"), case, told: [0; 4], gears: None });
+        self.0.push(Directed { words: format!("taken: {words}"), case, told: [0; 4], row: None });
     }
 
-    /// A case whose gears are worked out by hand.
+    /// A case whose gears are worked out by hand. Its clutch follows from them.
     fn gears(&mut self, words: &str, case: Case, gears: &str) {
-        let row = gears.split(' ').map(|gear| gear.parse().unwrap()).collect();
-        self.0.push(Directed { words: format!("{words}: {gears}"), case, told: [0; 4], gears: Some(row) });
+        let seconds = gears.split(' ').map(|gear| gear.parse().unwrap()).zip(case.trace[8..].chunks(4));
+        let row = seconds.flat_map(|(gear, second)| [gear, clutch(&case.vehicle, second, gear)]).collect();
+        self.0.push(Directed { words: format!("{words}: {gears}"), case, told: [0; 4], row: Some(row) });
+    }
+
+    /// Seconds whose clutch is worked out by hand too: each has its gear and then `in` or `out`.
+    fn row_with_clutch(&mut self, words: &str, vehicle: Vehicle, seconds: &str, row: &str) {
+        let bytes = |each: &str| match each.split_once('/').unwrap() {
+            (gear, "in") => [gear.parse().unwrap(), 0],
+            (gear, "out") => [gear.parse().unwrap(), 1],
+            _ => panic!("{each}"),
+        };
+        let bytes: Vec<u8> = row.split(' ').flat_map(bytes).collect();
+        let words = format!("clutch, {words}: {seconds} gives: {row}");
+        self.0.push(Directed { words, case: lent(trace(seconds), vehicle), told: [0; 4], row: Some(bytes) });
     }
 
     fn row(&mut self, words: &str, seconds: &str, gears: &str) {
@@ -341,7 +362,7 @@ fn close(cases: &mut Cases) {
     cases.refused(9, 2000, "the last of 2,000 seconds", last);
 }
 
-/// The gear of each second before corrections, and the clutch.
+/// The gear of each second before corrections, and the clutch below 10.0 km/h.
 fn phases(cases: &mut Cases) {
     cases.row("a run of five stops", "s s s s s", "1 1 1 1 1");
     cases.row("a run of six stops", "s s s s s s", "0 1 1 1 1 1");
@@ -363,6 +384,94 @@ fn phases(cases: &mut Cases) {
         let row: Vec<String> = (1..=8).map(|gear: u32| gear.min(gears).to_string()).collect();
         cases.gears(&format!("{gears} gears"), lent(trace("a1 a2 a3 a4 a5 a6 a7 a8"), vehicle), &row.join(" "));
     }
+}
+
+/// Four gears in which n + 0.03 (s - n), here 1,300 per minute, is 12.5, 13.0, 20.0 and 25.0 km/h. The upshift speeds are 55.3, 67.5 and 103.9 km/h.
+const TALL: Vehicle = Vehicle { gears: 4, ndv: [10_400, 10_000, 6500, 5200, 0, 0, 0, 0], ..EIGHT };
+
+/// The clutch by engine speed in each phase, below 10.0 km/h and at a stop.
+fn clutches(cases: &mut Cases) {
+    let rows = [
+        ("cruise in gear 2, in at equality", "c@129 c@130 c@131", "2/out 2/in 2/in"),
+        ("deceleration in gear 2", "d@131 d@130 d@129", "2/in 2/in 2/out"),
+        ("acceleration in gear 1", "a@124 a@125 a@126", "1/out 1/in 1/in"),
+        ("acceleration in gear 2", "a@129^ a@130^ a@131^", "2/out 2/in 2/in"),
+        ("one speed in two gears", "a@127 c@127 c@127", "1/in 2/out 2/out"),
+        ("out at a stop, however fast the engine", "s@2000 s s@2000 s s s@130", "0/out 1/out 1/out 1/out 1/out 1/out"),
+    ];
+    for (words, seconds, row) in rows {
+        cases.row_with_clutch(words, TALL, seconds, row);
+    }
+    let words = "out below 10.0 km/h, however fast the engine";
+    cases.row_with_clutch(words, EIGHT, "a@33 a@99 a@100 c@99 c@100", "1/out 1/out 1/in 2/out 2/in");
+}
+
+/// The clutch by engine speed in each gear, which the seconds before hold: 1,300,000 is each ratio times the tenths beside it.
+fn clutches_by_gear(cases: &mut Cases) {
+    let ratios = [
+        (13_000, 100, "a@400"),
+        (12_500, 104, "a@500"),
+        (10_400, 125, "a@600"),
+        (10_000, 130, "a@660"),
+        (8125, 160, "a@800"),
+        (6500, 200, "a@1000"),
+        (6250, 208, "a@1060"),
+        (5200, 250, "a@1200"),
+    ];
+    let vehicle = Vehicle { ndv: ratios.map(|(ndv, ..)| ndv), ..EIGHT };
+    for (gear, (_, tenth, before)) in (1..).zip(ratios) {
+        let seconds = format!("{before} c@{}= c@{tenth}= c@{}=", tenth - 1, tenth + 1);
+        let row = format!("{gear}/in {gear}/out {gear}/in {gear}/in");
+        cases.row_with_clutch(&format!("held in gear {gear}"), vehicle, &seconds, &row);
+    }
+}
+
+/// The clutch by engine speed for the least and the greatest n and s.
+fn clutches_by_vehicle(cases: &mut Cases) {
+    // n, s, the ratios of gears 1 and 2, and the tenths at which gear 2 has n + 0.03 (s - n)
+    let vehicles = [
+        ("s is n + 500: 515,000 is 103 x 5,000", 500, 1000, 6000, 5000, 103),
+        ("s is n + 500: 3,015,000 is 134 x 22,500", 3000, 3500, 23_000, 22_500, 134),
+        ("the least, 321,000, is 107 x 3,000", 300, 1000, 3100, 3000, 107),
+        ("the greatest, 3,510,000, is 135 x 26,000", 3000, 20_000, 30_000, 26_000, 135),
+        ("the greatest is also 1,950 x 1,800", 3000, 20_000, 1801, 1800, 1950),
+        ("12.0 km/h: 1,404,000 is 120 x 11,700", 1200, 8000, 20_000, 11_700, 120),
+    ];
+    for (words, idle, rated, first, second, tenth) in vehicles {
+        let vehicle = Vehicle { idle, rated, gears: 3, ndv: [first, second, 1000, 0, 0, 0, 0, 0], ..EIGHT };
+        let seconds = format!("c@{} c@{tenth} c@{}", tenth - 1, tenth + 1);
+        cases.row_with_clutch(words, vehicle, &seconds, "2/out 2/in 2/in");
+    }
+    let annex_13 =
+        Vehicle { power: 720, mass: 199, rated: 11_800, idle: 1150, gears: 6, ndv: [13_366, 9491, 7616, 6569, 5885, 5404, 0, 0] };
+    cases.row_with_clutch("table A13-3, 15.5 km/h", annex_13, "c@154 c@155", "2/out 2/in");
+    // 1,292,500 is 110 x 11,750, and 117 x 11,047 + 1, and 203 x 6,367 - 1
+    let beside = Vehicle { rated: 10_750, gears: 3, ndv: [11_750, 11_047, 6367, 0, 0, 0, 0, 0], ..EIGHT };
+    let words = "at equality, and 0.001 per minute below and above it";
+    cases.row_with_clutch(words, beside, "a@110 c@117 c@600 c@203=", "1/in 2/out 3/in 3/in");
+}
+
+/// The gear whose engine speed decides is the final one.
+fn clutches_after_corrections(cases: &mut Cases) {
+    let rows = [
+        ("correction 1 puts gear 1 for 2", "a@127 d@127", "1/in 1/in"),
+        ("correction 1, not after a cruise", "c@127 d@127", "2/out 2/out"),
+        ("correction 2 puts gear 2 for 1", "a@127^ a@130^", "2/out 2/in"),
+        ("correction 3 keeps gear 1", "a@127 c@127= c@127=", "1/in 1/in 1/in"),
+        ("correction 3 keeps gear 3", "c@600 c@199= c@200=", "3/in 3/out 3/in"),
+        ("correction 4 keeps gear 2", "a@600 a@127 a@130", "2/in 2/out 2/in"),
+        ("correction 5 cuts to gear 3", "c@700 c@199 c@199", "4/in 3/out 2/in"),
+        ("correction 5 cuts to gear 3, which has equality", "c@700 c@200 c@129", "4/in 3/in 2/out"),
+        ("correction 6 puts gear 3 for 2", "c@600 c@199 c@200 c@600", "3/in 3/out 3/in 3/in"),
+        ("correction 6 puts gear 1 for 2", "a@127 c@127 c@125 c@124 a@127", "1/in 1/in 1/in 1/out 1/in"),
+    ];
+    for (words, seconds, row) in rows {
+        cases.row_with_clutch(words, TALL, seconds, row);
+    }
+    // 9.6 km/h is the upshift 1 to 2, so that gear 3 goes down to where it has 1,200 per minute
+    let wide = Vehicle { gears: 3, ndv: [60_000, 50_000, 10_000, 0, 0, 0, 0, 0], ..EIGHT };
+    cases.row_with_clutch("gear 3 uncorrected", wide, "c@120 c@130 d@129", "3/out 3/in 3/out");
+    cases.row_with_clutch("correction 5 cuts to gear 2 after a stop", wide, "s c@120 c@120", "1/out 2/in 3/out");
 }
 
 /// Corrections 1 to 6, and their order.
@@ -485,8 +594,22 @@ pub(super) fn of_vehicle() -> Vec<Directed> {
 /// All of them, in the order of the file; each buffer's noise has the number of its line there.
 pub fn cases() -> Vec<Directed> {
     let mut cases = Cases::default();
-    let groups: [fn(&mut Cases); 10] =
-        [house_files, seconds, vehicle_ranges, ratios, power_to_mass, room, close, phases, corrections, order];
+    let groups: [fn(&mut Cases); 14] = [
+        house_files,
+        seconds,
+        vehicle_ranges,
+        ratios,
+        power_to_mass,
+        room,
+        close,
+        phases,
+        corrections,
+        order,
+        clutches,
+        clutches_by_gear,
+        clutches_by_vehicle,
+        clutches_after_corrections,
+    ];
     groups.iter().for_each(|group| group(&mut cases));
     for (line, directed) in (3..).step_by(2).zip(&mut cases.0) {
         directed.case.buffer = Random::new(line).bytes(directed.case.buffer.len());
@@ -494,20 +617,13 @@ pub fn cases() -> Vec<Directed> {
     cases.0
 }
 
-/// "Outside stop, the clutch is out exactly below 10.0 km/h"; at a stop it is out.
-fn clutch(second: &[u8]) -> u8 {
-    let stop = second[2] & 3 == 0;
-    u8::from(stop || second[1] == 0 && second[0] < 100)
-}
-
 /// The text of vectors/directed_gear.txt. Stops where the second implementation does not say what is expected.
 pub fn text() -> String {
     let mut text = super::head(include_str!("../../../vectors/gear.txt"));
-    for Directed { words, case, told, gears } in cases() {
+    for Directed { words, case, told, row } in cases() {
         let answer = by_plain(&case);
         assert_eq!(answer.0, told, "{words}");
-        if let Some(gears) = gears {
-            let row: Vec<u8> = gears.into_iter().zip(case.trace[8..].chunks(4)).flat_map(|(gear, second)| [gear, clutch(second)]).collect();
+        if let Some(row) = row {
             assert_eq!(answer.1, row, "{words}");
         }
         text += &format!("# {words}\n{case} {}\n", answer_text(&case, &answer));
