@@ -40,6 +40,20 @@ static void shift_speeds(ylhovesko_vehicle vehicle)
     expect("no speed beside a refusal", speeds.count == 0 && memcmp(speeds.upshift, none, sizeof none) == 0);
 }
 
+/* 12.0 km/h in cruise, which is gear 2; 1,000 n + 30 (s - n) is 1,404,000 here, which is 120 x 11,700 */
+static void clutch(ylhovesko_vehicle vehicle)
+{
+    const uint8_t cruise[] = {'W', 'T', 'R', 0, 1, 0, 1, 0, 120, 0, 2, 0};
+    uint8_t row[2];
+
+    vehicle.ndv[1] = 11700;
+    expect("the outcome at equality", is(ylhovesko_gears(cruise, sizeof cruise, vehicle, row, sizeof row, 0), 0, 0));
+    expect("the clutch in", row[0] == 2 && row[1] == 0);
+    vehicle.ndv[1] = 11699;
+    expect("the outcome of a tall second gear", is(ylhovesko_gears(cruise, sizeof cruise, vehicle, row, sizeof row, 0), 0, 0));
+    expect("the clutch out by engine speed", row[0] == 2 && row[1] == 1);
+}
+
 /* two parts with 1 percent of CO2 in the bag and nothing else, and nothing in the air */
 static ylhovesko_bag_sheet bag_sheet(void)
 {
@@ -129,6 +143,7 @@ int main(void)
     expect("none chosen", ylhovesko_chosen(normal, sizeof normal, reduced, sizeof reduced, true) == YLHOVESKO_NEITHER);
 
     shift_speeds(vehicle);
+    clutch(vehicle);
     presets();
     emission();
 
