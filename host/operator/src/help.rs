@@ -31,7 +31,8 @@ pub const GEARS: &str = "\
 usage: NAME gears TRACE VEHICLE [--csv FILE] [--svg FILE]
        NAME gears --pair NORMAL REDUCED VEHICLE [--reduced] [--csv FILE] [--svg FILE]
 
-Prints the gear and the clutch of a trace (a house file) for a vehicle sheet, a line for each run of seconds.
+Prints the gear and the clutch of a trace (a house file) for a vehicle sheet, a line for each run of seconds. The clutch is out at a stop, below
+10.0 km/h, and where the gear would turn the engine slower than idle + 0.03 (rated - idle).
 
   --pair        takes the normal and the reduced trace of a cycle, judges both, and prints the gears of the one that the switch names
   --reduced     the bench's reduced-speed switch is on: the reduced trace of the pair

@@ -23,6 +23,21 @@ fn house_files_come_from_the_tables() {
 }
 
 #[test]
+fn the_demo_s_own_trace_comes_from_its_table() {
+    let made = to_be_made("tall_second_made.wtr");
+    let told = run(&["house-file", &of_demo("cycles/tall_second.csv"), &made]);
+    assert_eq!((told.out, told.errors.as_str(), told.code), (format!("{made}: a trace of 34 seconds\n"), "", Some(0)));
+    assert!(fs::read(made).unwrap() == fs::read(of_demo("tall_second.wtr")).unwrap(), "tall_second.wtr differs from its table");
+}
+
+#[test]
+fn a_tall_second_gear_has_its_clutch_out_at_12_km_h() {
+    let told = run(&["gears", &of_demo("tall_second.wtr"), &of_demo("tall_second.vehicle")]);
+    assert!(told.out.contains("\n    10     17  2        out          12.0       12.0\n"), "{}", told.out);
+    assert_eq!((told.errors.as_str(), told.code), ("", Some(0)));
+}
+
+#[test]
 fn tables_come_from_the_traces() {
     for name in CYCLES {
         let made = to_be_made(&format!("{name}_made.csv"));
