@@ -16,8 +16,10 @@ use Rattle.row.specs.declared.Rule.the-variants.{NoFirst, NoShift, NoDrop, OneS
 use Rattle.row.specs.Row.{gearAt}
 use Rattle.row.specs.Corrections.{capRuns, passBy}
 use Rattle.phase.specs.Phase.{firstRow}
+use Rattle.runs.specs.Corrected.{corrected}
 use Rattle.gear.specs.Own.{ownSecond, ownAt}
-use Rattle.gear.specs.Sheet.{correctedFrom, ownOf, rowOf}
+use Rattle.gear.specs.Sheet.{rowOf}
+use Rattle.claims.specs.Rows.{correctedRow}
 use Rattle.claims.proofs.Rows.{row-length, row-gear}
 use Rattle.row.proofs.Passes.{cap-length, pass-length}
 use Rattle.row.proofs.Ranges.{FromTo, leastBy}
@@ -45,7 +47,7 @@ module _ (s : Shift) (enough : 3 ≤ s .gears) where
 
   -- ---- through the corrections
   module _ (trace : List ℕ) (n : ℕ) where
-    corrected-fit : Fit trace n (s .gears) (correctedFrom (λ k. ownAt s trace k .gear) trace n)
+    corrected-fit : Fit trace n (s .gears) (corrected trace (firstRow (λ k. ownAt s trace k .gear) trace n) n)
     corrected-fit =
         let row₀ = firstRow (λ k. ownAt s trace k .gear) trace n in
         let row₁ = capRuns trace row₀ n in
@@ -74,7 +76,7 @@ module _ (s : Shift) (enough : 3 ≤ s .gears) where
 pub row-fit : (v : VehicleSheet) → 3 ≤ v .gears → (trace : List ℕ) (n : ℕ) → Fit trace n (v .gears) (rowOf v trace n)
 unfolding shiftOf
 row-fit v enough trace n =
-    let same : (k : ℕ) → gearAt (rowOf v trace n) k ≡ gearAt (correctedFrom (ownOf v trace) trace n) k = row-gear v trace n in
+    let same : (k : ℕ) → gearAt (rowOf v trace n) k ≡ gearAt (correctedRow v trace n) k = row-gear v trace n in
     let fit = corrected-fit (shiftOf v) enough trace n in
     record {
       long = omega (arith, row-length v trace n);

@@ -20,32 +20,28 @@ use Rattle.clutch.specs.Clutch.{clutchOf}
 use Rattle.clutch.proofs.Clutch.{clutch-length, clutch-gear, clutch-at, clutch-of-most}
 use Rattle.runs.proofs.Frame.{corrected-length}
 use Rattle.gear.specs.Own.{judgeClose}
-use Rattle.gear.specs.Sheet.{judgeSheet, gearAnswer, ifAccepted, correctedFrom, ownOf, withRow, rowOf, gearBuffer}
+use Rattle.gear.specs.Sheet.{judgeSheet, gearAnswer, ifAccepted, ownOf, withRow, rowOf, gearBuffer}
 use Rattle.gear.proofs.Sheet.{Sound, sheet-sound, buffer-refused}
-use Rattle.claims.specs.Rows.{finishedRow}
+use Rattle.claims.specs.Rows.{finishedRow, correctedRow}
 
 -- ---- the row by itself
 module _ (v : VehicleSheet) (trace : List ℕ) (n : ℕ) where
-  before : List ℕ
-  before = correctedFrom (ownOf v trace) trace n
-
-  before-length : length before ≡ 2 * n
-  unfolding before
-  before-length = corrected-length trace (firstRow (ownOf v trace) trace n) n ∙ first-length (ownOf v trace) trace n
+  corrected-row-length : length (correctedRow v trace n) ≡ 2 * n
+  corrected-row-length = corrected-length trace (firstRow (ownOf v trace) trace n) n ∙ first-length (ownOf v trace) trace n
 
   -- two bytes a second
   pub row-length : length (rowOf v trace n) ≡ 2 * n
-  unfolding rowOf before
-  row-length = clutch-length _ before n ∙ before-length
+  unfolding rowOf
+  row-length = clutch-length _ (correctedRow v trace n) n ∙ corrected-row-length
 
   -- the gears stay as the corrections left them, whatever the rule of the clutch
-  pub row-gear : (k : ℕ) → gearAt (rowOf v trace n) k ≡ gearAt (correctedFrom (ownOf v trace) trace n) k
+  pub row-gear : (k : ℕ) → gearAt (rowOf v trace n) k ≡ gearAt (correctedRow v trace n) k
   unfolding rowOf
-  row-gear k = clutch-gear _ (correctedFrom (ownOf v trace) trace n) n k
+  row-gear k = clutch-gear _ (correctedRow v trace n) n k
 
   row-clutch : (k : ℕ) → k < n → clutchAt (rowOf v trace n) k ≡ clutchOf v (flagsAt trace k) (speedAt trace k) (gearAt (rowOf v trace n) k)
-  unfolding rowOf before
-  row-clutch k l = let long = before-length in clutch-at _ before n k l (omega arith)
+  unfolding rowOf
+  row-clutch k l = let long = corrected-row-length in clutch-at _ (correctedRow v trace n) n k l (omega arith)
 
 -- ---- in the buffer
 module _ (trace : List ℕ) (v : VehicleSheet) (buffer : List ℕ) (start : ℕ) where
@@ -98,7 +94,7 @@ module _ (trace : List ℕ) (v : VehicleSheet) (buffer : List ℕ) (start : ℕ)
         ap length written ∙ simp (length-append, length-drop) (omega (arith, sound .from, sound .fits))
 
     -- the gear of each second
-    pub gear-is : (k : ℕ) → gearAt (finishedRow trace v buffer start) k ≡ gearAt (correctedFrom (ownOf v trace) trace (countOf trace)) k
+    pub gear-is : (k : ℕ) → gearAt (finishedRow trace v buffer start) k ≡ gearAt (correctedRow v trace (countOf trace)) k
     gear-is k = ap (λ (row : List ℕ). gearAt row k) row-held ∙ row-gear v trace (countOf trace) k
 
     -- the clutch of each second, by its phase, its speed and the gear that the row has there

@@ -10,10 +10,8 @@ use Rattle.house.specs.House.{flagsAt}
 use Rattle.vehicle.specs.declared.VehicleSheet.{VehicleSheet}
 use Rattle.shift.specs.Speeds.{shiftOf}
 use Rattle.phase.specs.Phase.{stopEnd, gearBy, firstGear, firstRow}
-use Rattle.runs.specs.Corrected.{corrected}
-use Rattle.clutch.specs.Clutch.{clutchBy, withClutch}
 use Rattle.gear.specs.Own.{putOwn}
-use Rattle.gear.specs.Sheet.{rowFrom, ownOf, rowOf}
+use Rattle.gear.specs.Sheet.{finished, rowFrom, ownOf, rowOf}
 
 first-same : (f g : ℕ → ℕ) (trace : List ℕ) (n : ℕ) → ((k : ℕ) → k < n → f k ≡ g k) → firstRow f trace n ≡ firstRow g trace n
 unfolding firstRow firstGear
@@ -23,6 +21,4 @@ first-same f g trace n same =
 pub row-of-own : (v : VehicleSheet) (trace own : List ℕ) (n : ℕ) → n ≤ length own
     → rowFrom v (λ k. getD (putOwn (shiftOf v) trace own n) k 0) trace n ≡ rowOf v trace n
 unfolding rowOf
-row-of-own v trace own n room =
-    ap (λ (row : List ℕ). withClutch (clutchBy v trace) (corrected trace row n) n)
-    (first-same _ _ trace n (λ k l. put-at (ownOf v trace) own n k l room))
+row-of-own v trace own n room = ap (λ (row : List ℕ). finished v trace row n) (first-same _ _ trace n (λ k l. put-at (ownOf v trace) own n k l room))

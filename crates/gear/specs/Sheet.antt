@@ -18,12 +18,13 @@ use Rattle.runs.specs.Corrected.{corrected}
 use Rattle.clutch.specs.Clutch.{clutchBy, withClutch}
 use Rattle.gear.specs.Own.{ownAt, judgeClose}
 
--- the row from the gears outside stop: before corrections, and corrected; then with its clutch
-abbrev pub correctedFrom : (ℕ → ℕ) → List ℕ → ℕ → List ℕ
-correctedFrom own trace n = corrected trace (firstRow own trace n) n
+-- what becomes of a row before corrections: corrected, and then with its clutch
+abbrev pub finished : VehicleSheet → List ℕ → List ℕ → ℕ → List ℕ
+finished v trace row n = withClutch (clutchBy v trace) (corrected trace row n) n
 
+-- the row from the gears outside stop
 abbrev pub rowFrom : VehicleSheet → (ℕ → ℕ) → List ℕ → ℕ → List ℕ
-rowFrom v own trace n = withClutch (clutchBy v trace) (correctedFrom own trace n) n
+rowFrom v own trace n = finished v trace (firstRow own trace n) n
 
 -- the gear of second k outside stop, by the shift speeds of the vehicle
 abbrev pub ownOf : VehicleSheet → List ℕ → ℕ → ℕ
