@@ -1,7 +1,6 @@
 -- The clutch at the edges of its rule, computed by the definitions themselves. Assumes nothing.
 use mathlib.Core.Path.{_≡_, refl}
-use mathlib.Core.List.{List, [], _∷_}
-use Prim.Native.Nat.{ℕ}
+use mathlib.Core.List.{[], _∷_}
 use Rattle.row.proofs.Examples.{halt, up, level, down}
 use Rattle.vehicle.specs.Engine.{belowLowest}
 use Rattle.vehicle.proofs.Examples.{annex, round}

@@ -1,5 +1,5 @@
 -- `clutch::clutch_of` meets its contract. Assumes nothing.
-use mathlib.Core.Path.{_≡_, sym}
+use mathlib.Core.Path.{sym}
 use borrow.Author.Needs.{needs}
 use Rattle.clutch.specs.Clutch.{clutchOf}
 use Rattle.clutch.proofs.clutch_of.Statement.{statement}

@@ -17,10 +17,10 @@ own-gears-requires c κs =
     let ready = s .before .before .before .pre .1 in
     (rw (s .shift-of .ensures) ready, ready .few)
 
--- the own gears are those of the vehicle's shift speeds
 abbrev start : tie.After-own-gears → tie.Start
 start c = c .before .before .before .before .before
 
+-- the own gears are judged by the vehicle's shift speeds
 close-is : (c : tie.After-own-gears) → c .own-gears .result ≡ judgeClose (shiftOf (start c .args .v)) (start c .args .trace .now) 0 (start c .args .n)
 close-is c = rw (c .before .before .shift-of .ensures) at (c .own-gears .ensures .0)
 
