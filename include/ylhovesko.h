@@ -28,7 +28,7 @@ extern "C" {
  *
  *     if (ylhovesko_version() != YLHOVESKO_VERSION) return EXIT_FAILURE;
  */
-#define YLHOVESKO_VERSION 3u
+#define YLHOVESKO_VERSION 4u
 
 /* The version of the archive. */
 uint32_t ylhovesko_version(void);
@@ -42,7 +42,8 @@ uint32_t ylhovesko_version(void);
  *   2       count of seconds not 1 to 2,000                         -
  *   3       file length not 8 + 4 x count                           -
  *   4       speed, flags or fourth byte of a second wrong           the second
- *   5       vehicle sheet out of range                              1 power, 2 mass, 3 rated, 4 idle, 5 gears, 5 + gear for an ndv
+ *   5       vehicle sheet out of range                              1 power, 2 mass, 3 rated, 4 idle, 5 gears, 5 + gear for an ndv,
+ *                                                                   14 rule set
  *   6       ndv not below that of the gear before                   that gear
  *   7       too much power for the mass                             -
  *   8       start past the buffer, or under 2 x count bytes there   -
@@ -77,6 +78,12 @@ typedef struct {
     uint32_t idle;   /* idle speed per minute, 300 to 3,000, and at most rated - 500 */
     uint32_t gears;  /* 3 to 8 */
     uint32_t ndv[8]; /* engine speed over road speed in each gear, in 0.01 per minute per km/h, 1,000 to 100,000, strictly falling */
+    /*
+     * 1 for global technical regulation No. 2, 2 for chapter 2W-II of the Indian draft. Set 2 differs in cruise and deceleration alone: gear 1 where the
+     * engine is slower than idle + 0.03 (rated - idle) in gear 2, that is where the speed in 0.1 km/h times ndv[1] is below 1,000 idle + 30 (rated -
+     * idle); at equality it is not. Corrections, stops, clutch and what is refused are the same for both.
+     */
+    uint32_t rule_set;
 } ylhovesko_vehicle;
 
 /*
@@ -107,6 +114,7 @@ typedef struct {
     ylhovesko_outcome outcome;
     uint32_t count; /* of upshifts: one less than the gears */
     ylhovesko_ends upshift[7];
+    ylhovesko_ends to_first; /* the downshift from 2 to 1, (idle + 0.03 (rated - idle)) / ndv[1]; both ends 0 under rule set 1, which has none */
 } ylhovesko_speeds;
 
 /* Refusals 5 to 7. */

@@ -8,7 +8,7 @@ use Rattle.refusal.specs.declared.Judged.the-variants.{Accepted, Refused}
 use Rattle.vehicle.specs.declared.VehicleSheet.{VehicleSheet}
 use Rattle.vehicle.specs.Sheet.{judgeVehicle}
 use Rattle.shift.specs.Speeds.{shiftOf}
-use Rattle.speeds.specs.Upshifts.{upshiftsOf}
+use Rattle.speeds.specs.Upshifts.{shiftSpeedsOf}
 use Rattle.outcome.specs.declared.Outcome.{Outcome}
 use Rattle.outcome.specs.Outcome.{outcomeOf}
 use Rattle.boundary.specs.declared.SpeedsOutcome.{SpeedsOutcome}
@@ -17,12 +17,14 @@ abbrev none : Ends
 none = exactly (pos 0)
 
 unfoldable pub noSpeeds : Outcome → SpeedsOutcome
-noSpeeds outcome = record { outcome = outcome; count = 0; upshift = none ∷ none ∷ none ∷ none ∷ none ∷ none ∷ none ∷ [] }
+noSpeeds outcome = record { outcome = outcome; count = 0; upshift = none ∷ none ∷ none ∷ none ∷ none ∷ none ∷ none ∷ []; first = none }
 
 abbrev pub speedsOn : Judged → VehicleSheet → SpeedsOutcome
-speedsOn Accepted v = record { outcome = outcomeOf Accepted; count = upshiftsOf (shiftOf v) .count; upshift = upshiftsOf (shiftOf v) .upshift }
+speedsOn Accepted v =
+    let speeds = shiftSpeedsOf (shiftOf v) in
+    record { outcome = outcomeOf Accepted; count = speeds .count; upshift = speeds .upshift; first = speeds .first }
 speedsOn (Refused refusal) v = noSpeeds (outcomeOf (Refused refusal))
 
--- 5, 6 and 7, or the upshift speeds
+-- 5, 6 and 7, or the shift speeds
 unfoldable pub speedsOut : VehicleSheet → SpeedsOutcome
 speedsOut v = speedsOn (judgeVehicle v) v

@@ -23,7 +23,7 @@ ghost use Rattle.crossing.specs.Sheet.{sheetOf, resultOut};
 pub extern "C" fn ylhovesko_version() -> u32
     ensures { λ r. ⌜ r ≡ version ⌝ }
 {
-    3
+    4
 }
 
 // The gear sheet: refusals 1 to 9, or the row in the buffer from the start on.
@@ -65,6 +65,7 @@ pub struct SpeedsOutcome {
     pub outcome: Outcome,
     pub count: u32,
     pub upshift: [Ends; 7],
+    pub first: Ends,
 }
 
 fn no_speeds(outcome: Outcome) -> SpeedsOutcome
@@ -74,10 +75,11 @@ fn no_speeds(outcome: Outcome) -> SpeedsOutcome
         outcome,
         count: 0,
         upshift: [arith::exactly(0); 7],
+        first: arith::exactly(0),
     }
 }
 
-// The shift speeds of a vehicle: refusals 5 to 7, or the upshift speeds in 0.001 km/h.
+// The shift speeds of a vehicle: refusals 5 to 7, or the shift speeds in 0.001 km/h.
 #[no_mangle]
 pub extern "C" fn ylhovesko_shift_speeds(vehicle: VehicleSheet) -> SpeedsOutcome
     ensures { λ r. ⌜ r ≡ speedsOut vehicle ⌝ }
@@ -88,10 +90,12 @@ pub extern "C" fn ylhovesko_shift_speeds(vehicle: VehicleSheet) -> SpeedsOutcome
     };
     let speeds = speeds::of_vehicle(vehicle);
     let upshift = speeds.upshift;
+    let first = speeds.first;
     SpeedsOutcome {
         outcome: outcome::outcome_of(judged),
         count: speeds.count,
         upshift,
+        first,
     }
 }
 

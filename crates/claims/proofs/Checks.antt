@@ -10,13 +10,14 @@ use Rattle.refusal.specs.declared.Refusal.the-variants.{Header, Count, Length, 
 use Rattle.refusal.specs.declared.Judged.{Judged}
 use Rattle.refusal.specs.declared.Judged.the-variants.{Accepted, Refused}
 use Rattle.refusal.specs.Judging.{checked, Check, checkedAll, judgedBy, andThen}
+use Rattle.refusal.specs.Ranges.{within}
 use Rattle.refusal.proofs.Judging.{checkedAll-append, checkedAll-then}
 use Rattle.walk.specs.Walk.{scan}
 use Rattle.vehicle.specs.declared.VehicleSheet.{VehicleSheet}
 use Rattle.house.specs.House.{headed, countOf}
 use Rattle.trace.specs.Judging.{countable, judgeTrace, judgePair}
 use Rattle.house.specs.House.{secondGood}
-use Rattle.vehicle.specs.Sheet.{engineChecks, gearGood, gearRefusal, mild, judgeVehicle}
+use Rattle.vehicle.specs.Sheet.{engineChecks, gearGood, gearRefusal, ruleChecks, mild, judgeVehicle}
 use Rattle.shift.specs.Speeds.{shiftOf}
 use Rattle.gear.specs.Own.{ownAt}
 use Rattle.gear.specs.Sheet as gears
@@ -86,20 +87,34 @@ pair-judged normal reduced =
     ∙ ap (andThen (judgedBy (traceChecks normal))) (then-list (traceChecks reduced) last)
     ∙ then-list (traceChecks normal) (traceChecks reduced ++ last)
 
--- ---- a vehicle sheet, 5 to 7
-abbrev pub vehicleChecks : VehicleSheet → List Check
-vehicleChecks v =
+-- ---- a vehicle sheet, 5 to 7: the gears are judged where there are 3 to 8 of them
+abbrev judgedGears : Bool → VehicleSheet → ℕ → List Check
+judgedGears falling v n = each (gearGood falling (v .ndv)) (gearRefusal falling) 0 n
+
+abbrev checksBy : Bool → VehicleSheet → List Check
+checksBy geared v =
     engineChecks v
-    ++ (each (gearGood false (v .ndv)) (gearRefusal false) 0 (v .gears)
-    ++ (each (gearGood true (v .ndv)) (gearRefusal true) 0 (v .gears - 1) ++ (check (mild v) PowerToMass ∷ [])))
+    ++ (cond geared (judgedGears false v (v .gears)) []
+    ++ (ruleChecks v ++ (cond geared (judgedGears true v (v .gears - 1)) [] ++ (check (mild v) PowerToMass ∷ []))))
+
+abbrev pub vehicleChecks : VehicleSheet → List Check
+vehicleChecks v = checksBy (within 3 8 (v .gears)) v
 
 vehicle-judged : (v : VehicleSheet) → judgeVehicle v ≡ judgedBy (vehicleChecks v)
 unfolding judgeVehicle
-vehicle-judged v =
-    let ratios = scan-each (gearGood false (v .ndv)) (gearRefusal false) 0 (v .gears) in
-    let falls = scan-each (gearGood true (v .ndv)) (gearRefusal true) 0 (v .gears - 1) in
-    let last = check (mild v) PowerToMass ∷ [] in
-    (λ i. andThen (judgedBy (engineChecks v)) (andThen (ratios i) (andThen (falls i) (judgedBy last)))) ∙ simp then-list
+vehicle-judged v = go (within 3 8 (v .gears)) refl
+  where
+    go : (geared : Bool) → within 3 8 (v .gears) ≡ geared → judgeVehicle v ≡ judgedBy (checksBy geared v)
+    go true e =
+        let ratios = scan-each (gearGood false (v .ndv)) (gearRefusal false) 0 (v .gears) in
+        let falls = scan-each (gearGood true (v .ndv)) (gearRefusal true) 0 (v .gears - 1) in
+        let last = check (mild v) PowerToMass ∷ [] in
+        (λ i. andThen (judgedBy (engineChecks v)) (andThen (ratios i) (andThen (judgedBy (ruleChecks v)) (andThen (falls i) (judgedBy last)))))
+        ∙ simp then-list
+    -- place 5 fails, or one before it, whatever follows
+    go false e =
+        let ended : (x y : Judged) → checkedAll (engineChecks v) x ≡ checkedAll (engineChecks v) y = λ x y. rw e in
+        sym (checkedAll-then (engineChecks v) _) ∙ ended _ _ ∙ sym (checkedAll-append (engineChecks v) (ruleChecks v ++ (check (mild v) PowerToMass ∷ [])) Accepted)
 
 -- ---- the gear sheet, 1 to 9
 abbrev pub gearChecks : List ℕ → VehicleSheet → ℕ → ℕ → List Check

@@ -10,8 +10,9 @@ use Rattle.house.specs.House.{flagsAt, speedAt, stop, acceleration}
 use Rattle.vehicle.specs.declared.VehicleSheet.{VehicleSheet}
 use Rattle.shift.specs.declared.Shift.{Shift}
 use Rattle.shift.specs.declared.Own.{Own}
-use Rattle.shift.specs.Speeds.{aboveAt, tallyOf, ownGear, shiftOf}
+use Rattle.shift.specs.Speeds.{aboveAt, tallyOf, bySet1, goesFirst, ownGear, shiftOf}
 use Rattle.shift.proofs.Counting.{count-most}
+use Rattle.shift.proofs.Sets.{first, by-sets}
 use Rattle.row.specs.declared.Rule.the-variants.{NoFirst, NoShift, NoDrop, OneStep}
 use Rattle.row.specs.Row.{gearAt}
 use Rattle.row.specs.Corrections.{capRuns, passBy}
@@ -29,14 +30,25 @@ use Rattle.claims.proofs.Smoothing.{Fit, pass-near, smoothed-fit}
 
 -- ---- the gears that the shift speeds give
 module _ (s : Shift) (enough : 3 ≤ s .gears) where
-  own-range : (accelerates : Bool) (speed : ℕ) → FromTo 1 (s .gears) (ownGear s accelerates speed .gear)
-  unfolding ownGear tallyOf
-  own-range true speed =
+  set-1-range : (accelerates : Bool) (speed : ℕ) → FromTo 1 (s .gears) (bySet1 s accelerates speed .gear)
+  unfolding bySet1 tallyOf
+  set-1-range true speed =
       let few = count-most (aboveAt (s .first) (s .higher) (s .ndv) speed) (s .gears - 1) in
       record { low = omega arith; high = omega arith }
-  own-range false speed =
+  set-1-range false speed =
       let few = count-most (aboveAt (s .first) (s .higher) (s .ndv) speed) (s .gears - 2) in
       record { low = omega arith; high = omega arith }
+
+  -- under either rule set: gear 1 is one of a vehicle's
+  own-range : (accelerates : Bool) (speed : ℕ) → FromTo 1 (s .gears) (ownGear s accelerates speed .gear)
+  own-range accelerates speed = rw by-sets (go (goesFirst s accelerates speed))
+    where
+      own : Own
+      own = bySet1 s accelerates speed
+
+      go : (is : Bool) → FromTo 1 (s .gears) (cond is (first own) own .gear)
+      go true = record { low = omega arith; high = omega arith }
+      go false = set-1-range accelerates speed
 
   second-range : (flags speed : ℕ) → stop flags ≡ false → FromTo 1 (s .gears) (ownSecond s flags speed .gear)
   unfolding ownSecond

@@ -4,14 +4,16 @@ use mathlib.Core.Path.{_≡_, refl, sym, ap, subst, _∙_}
 use mathlib.Core.Logic.{inl, inr}
 use mathlib.Core.Bool.{Bool, true, false, cond, _&&_, _||_, or-true, false≢true}
 use mathlib.Core.List.{List, [], _∷_, _++_, append-assoc, append-nil}
-use Prim.Native.Nat.{ℕ, zero, suc, _+_, _-_, _*_, _≤_}
+use Prim.Native.Nat.{ℕ, zero, suc, _+_, _-_, _*_, _≤_, _<_}
 use native.Mathlib.Omega.{arith}
 use lib.Dec.{eqb, leb, ltb}
 use borrow.Author.Tests.{lt-ltb, ltb-true, eqb-true, eq-eqb}
 use Rattle.refusal.specs.declared.Refusal.{Refusal}
 use Rattle.refusal.specs.declared.Judged.{Judged}
 use Rattle.refusal.specs.declared.Judged.the-variants.{Accepted, Refused}
+use Rattle.refusal.specs.Ranges.{within}
 use Rattle.refusal.specs.Judging.{checked, Check, judgedBy}
+use Rattle.refusal.proofs.Ranges.{range}
 use Rattle.vehicle.specs.declared.VehicleSheet.{VehicleSheet}
 use Rattle.house.specs.House.{countOf}
 use Rattle.trace.specs.Judging.{judgePair}
@@ -29,7 +31,7 @@ use Rattle.outcome.specs.declared.Outcome.{Outcome}
 use Rattle.outcome.specs.Outcome.{outcomeOf}
 use Rattle.crossing.specs.Sheet.{withNothing, resultOut}
 use Rattle.claims.specs.Table.{Line, outcome, plain, placed, lines, accepted, firstOf, AllHold, FirstFails, Exactly, notAfter, rising}
-use Rattle.claims.specs.Table.{ratioLine, fallLine, closeLine, traceTable, pairTable, gearTable, emissionTable}
+use Rattle.claims.specs.Table.{ratioLine, fallLine, geared, closeLine, traceTable, pairTable, gearTable, emissionTable}
 use Rattle.claims.proofs.Checks.{check, each, pairChecks, pair-judged, gearChecks, gear-judged, judgedAnswer, emissionChecks, emission-judged}
 
 -- ---- a list of lines
@@ -113,19 +115,20 @@ further number a b h = rw (eq-eqb number number refl, lt-ltb a b h) (or-true (lt
 
 -- places that count on, and what comes after them
 rising-lines : (good : ℕ → Bool) (number d k n : ℕ) (last : Outcome) (rest : List Line)
-    → notAfter last (outcome number (k + d) 0 0) ≡ true → rising last rest ≡ true → ((a : ℕ) → rising (outcome number a 0 0) rest ≡ true)
+    → notAfter last (outcome number (k + d) 0 0) ≡ true → rising last rest ≡ true → ((a : ℕ) → a < k + n + d → rising (outcome number a 0 0) rest ≡ true)
     → rising last (lines (λ i. placed number (i + d) (good i)) k n ++ rest) ≡ true
 rising-lines good number d k zero last rest first now later = now
 rising-lines good number d k (suc n) last rest first now later =
     both first
-    (rising-lines good number d (k + 1) n (outcome number (k + d) 0 0) rest (further number (k + d) (k + 1 + d) (omega arith)) (later (k + d)) later)
+    (rising-lines good number d (k + 1) n (outcome number (k + d) 0 0) rest (further number (k + d) (k + 1 + d) (omega arith)) (later (k + d) (omega arith))
+    (λ a l. later a (omega arith)))
 
 -- and where nothing comes after them
 rising-last : (good : ℕ → Bool) (number d n : ℕ) (last : Outcome) → notAfter last (outcome number (0 + d) 0 0) ≡ true
     → rising last (lines (λ i. placed number (i + d) (good i)) 0 n) ≡ true
 rising-last good number d n last first =
     subst (λ (ls : List Line). rising last ls ≡ true) (append-nil (lines (λ i. placed number (i + d) (good i)) 0 n))
-    (rising-lines good number d 0 n last [] first refl (λ a. refl))
+    (rising-lines good number d 0 n last [] first refl (λ a l. refl))
 
 -- numbers that do not fall begin at 1, and so every line has one
 number-kept : (e f : Outcome) → 1 ≤ e .number → notAfter e f ≡ true → 1 ≤ f .number
@@ -178,6 +181,9 @@ module _ (trace : List ℕ) (v : VehicleSheet) (room start : ℕ) where
   abbrev falls : List Line
   falls = lines (fallLine (v .ndv)) 0 (v .gears - 1)
 
+  abbrev set : Line
+  set = placed 5 14 (within 1 2 (v .rules))
+
   -- 7, and 8 and 9 behind it
   abbrev seven : Line
   seven = plain 7 (leb (19 * v .power) (150 * (v .mass + 75)))
@@ -188,18 +194,26 @@ module _ (trace : List ℕ) (v : VehicleSheet) (room start : ℕ) where
   behind-rising : (a : ℕ) → rising (outcome 6 a 0 0) (seven ∷ behind) ≡ true
   behind-rising a = rising-last _ 9 1 (countOf trace) (outcome 8 0 0 0) refl
 
-  falls-rising : (a : ℕ) → rising (outcome 5 a 0 0) (falls ++ (seven ∷ behind)) ≡ true
-  falls-rising a = rising-lines _ 6 2 0 (v .gears - 1) (outcome 5 a 0 0) (seven ∷ behind) refl (behind-rising a) behind-rising
+  -- with the gears, where there are 3 to 8 of them, and without
+  set-rising : (geared : Bool) (a : ℕ) → a < 14 → rising (outcome 5 a 0 0) (set ∷ (cond geared falls [] ++ (seven ∷ behind))) ≡ true
+  set-rising true a l =
+      both (further 5 a 14 l) (rising-lines _ 6 2 0 (v .gears - 1) (outcome 5 14 0 0) (seven ∷ behind) refl (behind-rising 0) (λ b k. behind-rising b))
+  set-rising false a l = both (further 5 a 14 l) (behind-rising 0)
 
-  ratios-rising : rising (outcome 5 5 0 0) ((ratios ++ (falls ++ (seven ∷ []))) ++ behind) ≡ true
-  ratios-rising =
-      simp append-assoc (rising-lines _ 5 6 0 (v .gears) (outcome 5 5 0 0) (falls ++ (seven ∷ behind)) refl (falls-rising 5) falls-rising)
+  ratios-rising : rising (outcome 5 5 0 0) ((geared v ratios ++ (set ∷ (geared v falls ++ (seven ∷ [])))) ++ behind) ≡ true
+  ratios-rising = simp append-assoc (go (within 3 8 (v .gears)) refl)
+    where
+      go : (geared : Bool) → within 3 8 (v .gears) ≡ geared → rising (outcome 5 5 0 0) (cond geared ratios [] ++ (set ∷ (cond geared falls [] ++ (seven ∷ behind)))) ≡ true
+      go true e =
+          let few = range 3 8 (v .gears) e .1 in
+          rising-lines _ 5 6 0 (v .gears) (outcome 5 5 0 0) _ refl (set-rising true 5 (omega arith)) (λ a l. set-rising true a (omega arith))
+      go false e = set-rising false 5 (omega arith)
 
   pub gear-rising : rising (outcome 1 0 0 0) (gearTable trace v room start) ≡ true
-  gear-rising = rising-lines _ 4 1 0 (countOf trace) (outcome 3 0 0 0) _ refl ratios-rising (λ a. ratios-rising)
+  gear-rising = rising-lines _ 4 1 0 (countOf trace) (outcome 3 0 0 0) _ refl ratios-rising (λ a l. ratios-rising)
 
   gear-lines : linesOf (gearChecks trace v room start) ≡ gearTable trace v room start
-  gear-lines = simp (lines-append, lines-each)
+  gear-lines = simp (lines-append, lines-each, lines-third)
 
   pub gear-table : outcomeOf (gearAnswer trace v room start) ≡ firstOf (gearTable trace v room start)
   gear-table =

@@ -1,4 +1,4 @@
-// The gear sheet as the compiled code gives it, for the cases of the file `stdin`: the examples of Annex 13, the rows of the cycle's parts, traces too close
+// The gear sheet as the compiled code gives it, for the cases of the file `stdin`: the examples of Annex 13 and of 004's Appendix 8, the rows of the cycle's parts, traces too close
 // to call, pairs of traces, and the rows of the corrections.
 mod files;
 mod output;

@@ -1,4 +1,4 @@
-// The vehicle sheet of a case. The number of a field is its place, as in the table of refusals: 5 + gear has the ndv of a gear.
+// The vehicle sheet of a case. The number of a field is its place, as in the table of refusals: 5 + gear has the ndv of a gear, 14 the rule set.
 use cases::word_at;
 use vehicle::VehicleSheet;
 
@@ -23,5 +23,6 @@ pub fn vehicle_in(n: [u64; 802]) -> VehicleSheet {
         idle: word_at(n, 0, 4),
         gears: word_at(n, 0, 5),
         ndv: ndv_in(n),
+        rules: word_at(n, 0, 14),
     }
 }

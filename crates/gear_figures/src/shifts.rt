@@ -1,4 +1,4 @@
-// Tables A13-2 and A13-3 of 001. Of each figure both ends are printed, rounded outward before the last rounding: where they agree it is that of the exact one.
+// Tables A13-2 and A13-3 of 001, and Ap8-3 and Ap8-4 of 004. Of each figure both ends are printed, rounded outward before the last rounding: where they agree it is that of the exact one.
 ghost use Prim.Native.Nat.{_<_};
 use super::output;
 use super::sheet::vehicle_in;
@@ -109,7 +109,7 @@ pub fn shift_speed(n: [u64; 802]) {
     side_speeds(n, side_of(shift::shift_of(v), word_at(n, 0, 21)));
 }
 
-// 001, table A13-3, "2 to cl": where the clutch goes out.
+// 001, table A13-3, and 004, table Ap8-4, "2 to cl": where the clutch goes out, and by equation 2.7 of 004 the downshift 2 to 1.
 pub fn clutch_speed(n: [u64; 802]) {
     let v = vehicle_in(n);
     let judged = vehicle::judge(v);

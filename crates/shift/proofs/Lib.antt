@@ -4,3 +4,4 @@ pub mod Counting
 pub mod ExactTerms
 pub mod ExactSpeeds
 pub mod Examples
+pub mod Sets

@@ -1,4 +1,4 @@
--- 01, Shift speeds: the shift speeds of a vehicle, and a speed held against them in whole numbers. Gears and shift speeds count from 0 here.
+-- 01, Shift speeds, and 02, M-101: the shift speeds of a vehicle, and a speed held against them in whole numbers. Gears and shift speeds count from 0 here.
 use mathlib.Core.Bool.{Bool, true, false, not, cond, _&&_}
 use Prim.Native.Nat.{ℕ, zero, suc, _+_, _-_, _*_, _^_, _≤_, _<_}
 use mathlib.Core.List.{List}
@@ -9,6 +9,7 @@ use lib.Signed.{ltZ}
 use Rattle.arith.specs.declared.Ends.{Ends}
 use Rattle.arith.specs.Stages.{exactly, sumOf, differenceOf, scaledBy}
 use Rattle.vehicle.specs.declared.VehicleSheet.{VehicleSheet}
+use Rattle.vehicle.specs.Engine.{lowestEngineSpeed}
 use Rattle.shift.specs.declared.Shift.{Shift}
 use Rattle.shift.specs.declared.Own.{Own}
 use Rattle.shift.specs.declared.Tally.{Tally}
@@ -49,9 +50,9 @@ higherSide v = sideOf (higherPart v) (v .rated - v .idle) (v .idle)
 unfoldable pub firstSide : VehicleSheet → Ends
 firstSide v = sideOf (firstPart v) (v .rated - v .idle) (v .idle)
 
--- all that a speed is held against: the shift speeds are one of the two sides over ndv
+-- all that a speed is held against: the shift speeds are one of the two sides over ndv, and under rule set 2 the lowest engine speed over ndv of gear 2 is one too
 unfoldable pub shiftOf : VehicleSheet → Shift
-shiftOf v = record { first = firstSide v; higher = higherSide v; ndv = v .ndv; gears = v .gears }
+shiftOf v = record { first = firstSide v; higher = higherSide v; ndv = v .ndv; gears = v .gears; lowest = lowestEngineSpeed v; rules = v .rules }
 
 -- "10 x speed x ndv x 2^32"
 abbrev pub leftOf : ℕ → ℕ → ℤ
@@ -91,17 +92,36 @@ unfoldable pub tallyOf : Ends → Ends → List ℕ → ℕ → ℕ → Tally
 tallyOf first higher ndv speed n =
     record { above = count (aboveAt first higher ndv speed) n; close = count (closeAt first higher ndv speed) n }
 
--- 01, Gear of each second: "Acceleration: one more than the number of upshift speeds the speed is above. Cruise, deceleration: two more than the number of
--- downshift speeds it is above", and whether any of these comparisons is too close
+-- so many more than the speeds it is above, and whether any of these comparisons is too close
 abbrev pub ownBy : Tally → ℕ → Own
 ownBy t base = record { gear = t .above + base; close = ltb 0 (t .close) }
 
 abbrev pub against : Shift → ℕ → ℕ → Tally
 against s speed n = tallyOf (s .first) (s .higher) (s .ndv) speed n
 
+-- rule set 1: 01, Gear of each second: "Acceleration: one more than the number of upshift speeds the speed is above. Cruise, deceleration: two more than the
+-- number of downshift speeds it is above"
+unfoldable pub bySet1 : Shift → Bool → ℕ → Own
+bySet1 s true speed = ownBy (against s speed (s .gears - 1)) 1
+bySet1 s false speed = ownBy (against s speed (s .gears - 2)) 2
+
+-- 02, M-101: "a downshift 2 to 1 at (n + 0.03 (s - n)) / ndv2 .. compared exactly: gear 1 strictly below"
+unfoldable pub belowSecond : Shift → ℕ → Bool
+belowSecond s speed = ltb (speed * getD (s .ndv) 1 0) (s .lowest)
+
+-- rule set 2: acceleration as in set 1; "cruise and deceleration seconds below it are gear 1 .. gear 1 still goes first, and a second too close to any of the other
+-- speeds is still refused"
+unfoldable pub bySet2 : Shift → Bool → ℕ → Own
+bySet2 s true speed = bySet1 s true speed
+bySet2 s false speed = record { gear = cond (belowSecond s speed) 1 (bySet1 s false speed .gear); close = bySet1 s false speed .close }
+
+-- the seconds in gear 1 of which set 1 says nothing
+abbrev pub goesFirst : Shift → Bool → ℕ → Bool
+goesFirst s accelerates speed = (eqb (s .rules) 2 && not accelerates) && belowSecond s speed
+
+-- by the rule set that the sheet names
 unfoldable pub ownGear : Shift → Bool → ℕ → Own
-ownGear s true speed = ownBy (against s speed (s .gears - 1)) 1
-ownGear s false speed = ownBy (against s speed (s .gears - 2)) 2
+ownGear s accelerates speed = cond (eqb (s .rules) 2) (bySet2 s accelerates speed) (bySet1 s accelerates speed)
 
 -- the first n gears are there and in range
 pub record InRange (ndv : List ℕ) (n : ℕ) : Type 0 where

@@ -5,7 +5,7 @@ use vehicle::VehicleSheet;
 ghost use mathlib.Core.Path.{_≡_};
 ghost use Rattle.shift.specs.Exponential.{nextTerm, withTerm, exponentialOf, Exponent};
 ghost use Rattle.shift.specs.Fitting.{TermFits, SideFits};
-ghost use Rattle.shift.specs.Speeds.{sideOf, shiftOf, leftOf, sideAt, oneOf, tallyOf, ownGear, InRange, ShiftRanges};
+ghost use Rattle.shift.specs.Speeds.{sideOf, shiftOf, leftOf, sideAt, oneOf, tallyOf, bySet1, belowSecond, goesFirst, ownGear, InRange, ShiftRanges};
 ghost use Rattle.vehicle.specs.Sheet.{Sound};
 ghost use mathlib.Core.Bool.{cond};
 ghost use Prim.Native.Nat.{_≤_, _<_};
@@ -62,12 +62,15 @@ fn side(part: Ends, span: u32, idle: u32) -> Ends
     arith::sum(rise, foot)
 }
 
-// What a speed is held against: the side of the upshift 1 to 2, and that of all others.
+// What a speed is held against: the side of the upshift 1 to 2, and that of all others; the lowest engine speed, in 0.001 per minute, for the downshift 2 to 1
+// of rule set 2.
 pub struct Shift {
     pub first: Ends,
     pub higher: Ends,
     pub ndv: [u32; 8],
     pub gears: u32,
+    pub lowest: u64,
+    pub rules: u32,
 }
 
 pub fn shift_of(v: VehicleSheet) -> Shift
@@ -85,6 +88,8 @@ pub fn shift_of(v: VehicleSheet) -> Shift
         higher: side(part, span, idle),
         ndv,
         gears: v.gears,
+        lowest: vehicle::lowest_engine_speed(v),
+        rules: v.rules,
     }
 }
 
@@ -163,10 +168,10 @@ pub struct Own {
     pub close: bool,
 }
 
-// The gear of a second outside stop, before corrections.
-pub fn own_gear(s: Shift, accelerating: bool, speed: u32) -> Own
+// The gear of a second outside stop by rule set 1, before corrections.
+fn by_set_1(s: Shift, accelerating: bool, speed: u32) -> Own
     requires { ⌜ (ShiftRanges s) × (speed ≤ 2000) ⌝ }
-    ensures { λ r. ⌜ r ≡ ownGear s accelerating speed ⌝ }
+    ensures { λ r. ⌜ r ≡ bySet1 s accelerating speed ⌝ }
 {
     let ndv = s.ndv;
     let gears = s.gears as usize;
@@ -182,4 +187,37 @@ pub fn own_gear(s: Shift, accelerating: bool, speed: u32) -> Own
         gear: down.above + 2,
         close: 0 < down.close,
     }
+}
+
+// Below the downshift 2 to 1 of rule set 2, which has no exponential in it.
+fn below_second(s: Shift, speed: u32) -> bool
+    requires { ⌜ (ShiftRanges s) × (speed ≤ 2000) ⌝ }
+    ensures { λ r. ⌜ r ≡ belowSecond s speed ⌝ }
+{
+    let ndv = s.ndv;
+    (speed as u64) * (ndv[1] as u64) < s.lowest
+}
+
+// Gear 1 by rule set 2.
+fn goes_first(s: Shift, accelerating: bool, speed: u32) -> bool
+    requires { ⌜ (ShiftRanges s) × (speed ≤ 2000) ⌝ }
+    ensures { λ r. ⌜ r ≡ goesFirst s accelerating speed ⌝ }
+{
+    let below = below_second(s, speed);
+    (s.rules == 2) & !accelerating & below
+}
+
+// The gear of a second outside stop by the sheet's rule set, before corrections.
+pub fn own_gear(s: Shift, accelerating: bool, speed: u32) -> Own
+    requires { ⌜ (ShiftRanges s) × (speed ≤ 2000) ⌝ }
+    ensures { λ r. ⌜ r ≡ ownGear s accelerating speed ⌝ }
+{
+    let own = by_set_1(s, accelerating, speed);
+    if goes_first(s, accelerating, speed) {
+        return Own {
+            gear: 1,
+            close: own.close,
+        };
+    }
+    own
 }

@@ -1,7 +1,6 @@
 -- What an accepted sheet gives the shift speeds in km/h. Assumes nothing.
 use mathlib.Core.Bool.{Bool, true, false, cond}
 use Prim.Native.Nat.{ℕ, _*_, _≤_}
-use native.Mathlib.Nat.{le-trans}
 use native.Mathlib.Omega.{arith}
 use lib.Dec.{eqb}
 use lib.IntN.{pos}
@@ -28,8 +27,9 @@ vehicle-geared s =
     record {
       first = side-size (first-fits s);
       higher = side-size (higher-fits s);
-      some = omega (arith, s .ranged .gears .0);
+      some = s .ranged .gears .0;
       ndvs = λ i l. omega (arith, s .ndv i l .0);
+      slow = let r = s .ranged in omega (arith, r .rated, r .idle);
     }
 
 pub side-at-size : {s : Shift} → Geared s → (i : ℕ) → Sized largestSide (sideAt (s .first) (s .higher) i)

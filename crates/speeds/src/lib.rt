@@ -1,4 +1,4 @@
-// The shift speeds of a vehicle in km/h (01, Shift speeds), as a planner reads them: ends in 0.001 km/h.
+// The shift speeds of a vehicle in km/h (01, Shift speeds; 02, M-101), as a planner reads them: ends in 0.001 km/h.
 use arith::Ends;
 use shift::Shift;
 use vehicle::VehicleSheet;
@@ -7,12 +7,13 @@ ghost use Prim.Native.Nat.{_≤_, _<_};
 ghost use Rattle.arith.specs.Fitting.{Sized};
 ghost use Rattle.vehicle.specs.Sheet.{Sound};
 ghost use Rattle.shift.specs.Speeds.{shiftOf};
-ghost use Rattle.speeds.specs.Upshifts.{speedOf, upshiftAt, upshiftsOf, largestSide, Geared};
+ghost use Rattle.speeds.specs.Upshifts.{speedOf, upshiftAt, toFirst, shiftSpeedsOf, largestSide, Geared};
 
-// The first `count` of `upshift`, from the first gear up; the others are 0.
+// The first `count` of `upshift`, from the first gear up; the others are 0. `first` is the downshift 2 to 1, 0 under rule set 1.
 pub struct ShiftSpeeds {
     pub count: u32,
     pub upshift: [Ends; 7],
+    pub first: Ends,
 }
 
 // The engine speed in 1/10,000 per minute, and ten times that over ndv.
@@ -35,9 +36,23 @@ fn upshift(s: Shift, i: usize) -> Ends
     arith::exactly(0)
 }
 
-fn upshifts(s: Shift) -> ShiftSpeeds
+fn to_first(s: Shift) -> Ends
     requires { ⌜ Geared s ⌝ }
-    ensures { λ r. ⌜ r ≡ upshiftsOf s ⌝ }
+    ensures { λ r. ⌜ r ≡ toFirst s ⌝ }
+{
+    let ndv = s.ndv;
+    if s.rules == 2 {
+        return arith::divided(
+            arith::exactly((100 * s.lowest) as i64),
+            arith::whole(ndv[1]),
+        );
+    }
+    arith::exactly(0)
+}
+
+fn shift_speeds(s: Shift) -> ShiftSpeeds
+    requires { ⌜ Geared s ⌝ }
+    ensures { λ r. ⌜ r ≡ shiftSpeedsOf s ⌝ }
 {
     ShiftSpeeds {
         count: s.gears - 1,
@@ -50,12 +65,13 @@ fn upshifts(s: Shift) -> ShiftSpeeds
             upshift(s, 5),
             upshift(s, 6),
         ],
+        first: to_first(s),
     }
 }
 
 pub fn of_vehicle(v: VehicleSheet) -> ShiftSpeeds
     requires { ⌜ Sound v ⌝ }
-    ensures { λ r. ⌜ r ≡ upshiftsOf (shiftOf v) ⌝ }
+    ensures { λ r. ⌜ r ≡ shiftSpeedsOf (shiftOf v) ⌝ }
 {
-    upshifts(shift::shift_of(v))
+    shift_speeds(shift::shift_of(v))
 }

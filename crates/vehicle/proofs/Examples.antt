@@ -12,7 +12,7 @@ use Rattle.vehicle.specs.Engine.{engineSpeed, lowestEngineSpeed, belowLo
 
 -- three gears: what stands behind them is not read
 abbrev sheet : ℕ → ℕ → ℕ → ℕ → List ℕ → Judged
-sheet power mass rated idle ndv = judgeVehicle (record { power = power; mass = mass; rated = rated; idle = idle; gears = 3; ndv = ndv })
+sheet power mass rated idle ndv = judgeVehicle (record { power = power; mass = mass; rated = rated; idle = idle; gears = 3; ndv = ndv; rules = 1 })
 
 abbrev gears : List ℕ
 gears = 100000 ∷ 1001 ∷ 1000 ∷ 0 ∷ 0 ∷ 0 ∷ 0 ∷ 0 ∷ []
@@ -36,6 +36,25 @@ gears-falling : (sheet 1 30 1000 300 (1001 ∷ 1001 ∷ 1000 ∷ []) ≡ Refused
 unfolding judgeVehicle
 gears-falling = (refl, refl)
 
+-- 5, place 14: "Refusals: 5 with place 14 for any other set"; before 6 and 7, and after 5 for a gear
+abbrev bySet : ℕ → ℕ → List ℕ → Judged
+bySet rules power ndv = judgeVehicle (record { power = power; mass = 115; rated = 1000; idle = 300; gears = 3; ndv = ndv; rules = rules })
+
+rule-sets :
+    (bySet 0 1500 gears ≡ Refused (Vehicle 14))
+    × (bySet 1 1500 gears ≡ Accepted)
+    × (bySet 2 1500 gears ≡ Accepted)
+    × (bySet 3 1500 gears ≡ Refused (Vehicle 14))
+unfolding judgeVehicle
+rule-sets = (refl, refl, refl, refl)
+
+rule-set-in-order :
+    (bySet 3 1501 (1001 ∷ 1001 ∷ 1000 ∷ []) ≡ Refused (Vehicle 14))
+    × (bySet 2 1501 (1001 ∷ 1001 ∷ 1000 ∷ []) ≡ Refused (Ratio 2))
+    × (bySet 3 1500 (1002 ∷ 1001 ∷ 999 ∷ []) ≡ Refused (Vehicle 8))
+unfolding judgeVehicle
+rule-set-in-order = (refl, refl, refl)
+
 -- Annex 13's machine (table A13-1)
 abbrev pub annex : VehicleSheet
 annex =
@@ -46,6 +65,7 @@ annex =
       idle = 1150;
       gears = 6;
       ndv = 13366 ∷ 9491 ∷ 7616 ∷ 6569 ∷ 5885 ∷ 5404 ∷ 0 ∷ 0 ∷ [];
+      rules = 1;
     }
 
 -- table A13-3, "2 to cl": 1,470 per minute, which is 1,469.5, and from 15.5 km/h on second gear has it
@@ -55,7 +75,7 @@ lowest = (refl, refl, refl, refl)
 
 -- a machine whose n + 0.03 (s - n) is 1,120 per minute, with 80.00 per km/h in second gear: 14.0 km/h is exactly that, and not below
 abbrev pub round : VehicleSheet
-round = record { power = 300; mass = 200; rated = 5000; idle = 1000; gears = 3; ndv = 12000 ∷ 8000 ∷ 6000 ∷ [] }
+round = record { power = 300; mass = 200; rated = 5000; idle = 1000; gears = 3; ndv = 12000 ∷ 8000 ∷ 6000 ∷ []; rules = 1 }
 
 at-equality : (belowLowest round 2 139 ≡ true) × (belowLowest round 2 140 ≡ false)
 unfolding belowLowest

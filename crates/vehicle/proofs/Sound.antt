@@ -12,7 +12,7 @@ use Rattle.refusal.proofs.Ranges.{both, range}
 use Rattle.refusal.proofs.Judging.{checked-holds, judged-holds, then-holds, refused-not}
 use Rattle.walk.proofs.Walk.{all-good}
 use Rattle.vehicle.specs.declared.VehicleSheet.{VehicleSheet}
-use Rattle.vehicle.specs.Sheet.{engineChecks, ndvAt, gearGood, judgeGears, mild, judgeVehicle, Ranged, Sound}
+use Rattle.vehicle.specs.Sheet.{engineChecks, ndvAt, gearGood, judgeGears, ruleChecks, mild, judgeVehicle, Ranged, Sound}
 
 pub engine-ranged : (v : VehicleSheet) → judgedBy (engineChecks v) ≡ Accepted → Ranged v
 engine-ranged v e =
@@ -33,14 +33,17 @@ accepted-sound v e =
     let last = checked (mild v) PowerToMass Accepted in
     let ratios = judgeGears false (v .ndv) 0 (v .gears) in
     let falls = judgeGears true (v .ndv) 0 (v .gears - 1) in
-    let engine = then-holds (judgedBy (engineChecks v)) (andThen ratios (andThen falls last)) e in
-    let gears = then-holds ratios (andThen falls last) (engine .1) in
-    let fall = then-holds falls last (gears .1) in
+    let set = judgedBy (ruleChecks v) in
+    let engine = then-holds (judgedBy (engineChecks v)) (andThen ratios (andThen set (andThen falls last))) e in
+    let gears = then-holds ratios (andThen set (andThen falls last)) (engine .1) in
+    let rules = then-holds set (andThen falls last) (gears .1) in
+    let fall = then-holds falls last (rules .1) in
     let good : (falling : Bool) (n : ℕ) → judgeGears falling (v .ndv) 0 n ≡ Accepted → (i : ℕ) → i < n → gearGood falling (v .ndv) i ≡ true =
     λ falling. all-good (gearGood falling (v .ndv)) _ _ Accepted (λ i. refused-not) in
     record {
       ranged = engine-ranged v (engine .0);
       ndv = λ i l. range 1000 100000 (ndvAt (v .ndv) i) (good false (v .gears) (gears .0) i l);
+      rules = range 1 2 (v .rules) (judged-holds (ruleChecks v) (rules .0) .0);
       fall = λ i l. ltb-true (ndvAt (v .ndv) (i + 1)) (ndvAt (v .ndv) i) (good true (v .gears - 1) (fall .0) i l);
       mild = leb-true (19 * v .power) (150 * (v .mass + 75)) (checked-holds (mild v) PowerToMass Accepted (fall .1) .0);
     }

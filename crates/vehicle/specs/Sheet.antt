@@ -1,4 +1,4 @@
--- 01, Shift speeds: the vehicle sheet, and refusals 5, 6 and 7. Gears count from 0 here, and from 1 where a refusal names one.
+-- 01, Shift speeds, and 02, M-101: the vehicle sheet, and refusals 5, 6 and 7. Gears count from 0 here, and from 1 where a refusal names one.
 use mathlib.Core.Bool.{Bool, true, false, _&&_}
 use mathlib.Core.List.{List, [], _∷_}
 use mathlib.Core.Path.{_≡_}
@@ -45,6 +45,10 @@ gearRefusal true i = Ratio (i + 2)
 abbrev pub judgeGears : Bool → List ℕ → ℕ → ℕ → Judged
 judgeGears falling ndv = scan (gearGood falling ndv) (λ i. Refused (gearRefusal falling i)) (λ i. Accepted)
 
+-- 5, place 14 (02, M-101): the rule set, "1 or 2"
+abbrev pub ruleChecks : VehicleSheet → List Check
+ruleChecks v = field 14 (within 1 2 (v .rules)) ∷ []
+
 -- 7: "Condition: 19 P <= 150 (m + 75)"
 abbrev pub mild : VehicleSheet → Bool
 mild v = leb (19 * v .power) (150 * (v .mass + 75))
@@ -54,8 +58,9 @@ unfoldable pub judgeVehicle : VehicleSheet → Judged
 judgeVehicle v =
     andThen (judgedBy (engineChecks v))
     (andThen (judgeGears false (v .ndv) 0 (v .gears))
+    (andThen (judgedBy (ruleChecks v))
     (andThen (judgeGears true (v .ndv) 0 (v .gears - 1))
-    (checked (mild v) PowerToMass Accepted)))
+    (checked (mild v) PowerToMass Accepted))))
 
 -- the n gears are there, and where each is held against the next, those too
 pub record Reach (falling : Bool) (n : ℕ) : Type 0 where
@@ -74,5 +79,6 @@ pub record Ranged (v : VehicleSheet) : Type 0 where
 pub record Sound (v : VehicleSheet) : Type 0 where
   pub ranged : Ranged v
   pub ndv : (i : ℕ) → i < v .gears → (1000 ≤ ndvAt (v .ndv) i) × (ndvAt (v .ndv) i ≤ 100000)
+  pub rules : (1 ≤ v .rules) × (v .rules ≤ 2)
   pub fall : (i : ℕ) → i < v .gears - 1 → ndvAt (v .ndv) (i + 1) < ndvAt (v .ndv) i
   pub mild : 19 * v .power ≤ 150 * (v .mass + 75)

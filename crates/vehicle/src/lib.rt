@@ -1,4 +1,4 @@
-// The vehicle sheet (01, Shift speeds), judged: refusals 5, 6 and 7; and the lowest engine speed that drives.
+// The vehicle sheet (01, Shift speeds; 02, M-101), judged: refusals 5, 6 and 7; and the lowest engine speed that drives.
 use refusal::Judged;
 use refusal::Refusal;
 ghost use mathlib.Core.Path.{_≡_};
@@ -11,8 +11,8 @@ ghost use Rattle.refusal.specs.declared.Refusal.the-variants.{Vehicle};
 ghost use Rattle.vehicle.specs.Engine.{ndvOf, lowestEngineSpeed, belowLowest};
 ghost use Rattle.vehicle.specs.Sheet.{engineChecks, gearGood, gearRefusal, judgeGears, judgeVehicle, Reach};
 
-// Power in 0.1 kW, mass in kg, rated and idle speed per minute, and of each gear ndv in 0.01 per minute per km/h. Only the first `gears` of them are
-// read. It crosses the C boundary as it is.
+// Power in 0.1 kW, mass in kg, rated and idle speed per minute, of each gear ndv in 0.01 per minute per km/h, and the rule set: 1 for global technical
+// regulation No. 2, 2 for chapter 2W-II of document 004. Only the first `gears` of ndv are read. It crosses the C boundary as it is.
 #[repr(C)]
 pub struct VehicleSheet {
     pub power: u32,
@@ -21,6 +21,7 @@ pub struct VehicleSheet {
     pub idle: u32,
     pub gears: u32,
     pub ndv: [u32; 8],
+    pub rules: u32,
 }
 
 fn ranged(field: u32, least: u32, most: u32, n: u32, rest: Judged) -> Judged
@@ -104,6 +105,10 @@ pub fn judge(v: VehicleSheet) -> Judged
     let ratios = judge_gears(false, ndv, gears);
     let Judged::Accepted = ratios else {
         return ratios;
+    };
+    let rules = ranged(14, 1, 2, v.rules, Judged::Accepted);
+    let Judged::Accepted = rules else {
+        return rules;
     };
     let fall = judge_gears(true, ndv, gears - 1);
     let Judged::Accepted = fall else {

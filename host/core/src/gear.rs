@@ -12,6 +12,7 @@ pub struct Vehicle {
     pub idle: u32,
     pub gears: u32,
     pub ndv: [u32; 8],
+    pub rule_set: u32,
 }
 
 /// Writes the gear and the clutch of every second of the trace into the buffer from the byte `start` on; or gives the first of the refusals 1 to
@@ -19,7 +20,7 @@ pub struct Vehicle {
 ///
 /// ```
 /// use ylhovesko::gear::{gears, Vehicle};
-/// let vehicle = Vehicle { power: 300, mass: 200, rated: 8000, idle: 1200, gears: 3, ndv: [20_000, 12_000, 9_000, 0, 0, 0, 0, 0] };
+/// let vehicle = Vehicle { power: 300, mass: 200, rated: 8000, idle: 1200, gears: 3, ndv: [20_000, 12_000, 9_000, 0, 0, 0, 0, 0], rule_set: 1 };
 /// let stop = [b'W', b'T', b'R', 0, 1, 0, 1, 0, 0, 0, 0, 0];
 /// let mut buffer = [7; 4];
 /// gears(&stop, vehicle, &mut buffer, 1).unwrap();
@@ -37,21 +38,30 @@ pub(crate) struct SpeedsOutcome {
     pub outcome: Outcome,
     pub count: u32,
     pub upshift: [Ends; 7],
+    pub to_first: Ends,
 }
 
 /// The shift speeds of a vehicle, in 0.001 km/h.
 #[derive(Clone, Debug, PartialEq, Eq)]
-pub struct ShiftSpeeds(Vec<Ends>);
+pub struct ShiftSpeeds {
+    upshifts: Vec<Ends>,
+    to_first: Option<Ends>,
+}
 
 impl ShiftSpeeds {
     /// From each gear but the last to the next, beginning with gear 1.
     pub fn upshifts(&self) -> &[Ends] {
-        &self.0
+        &self.upshifts
     }
 
     /// From each gear to the one before, beginning with gear 3. The first is the upshift 1 to 2, and so on: the upshift of two gears below.
     pub fn downshifts(&self) -> &[Ends] {
-        &self.0[..self.0.len() - 1]
+        &self.upshifts[..self.upshifts.len() - 1]
+    }
+
+    /// From gear 2 to gear 1, which rule set 2 alone has.
+    pub fn to_first(&self) -> Option<Ends> {
+        self.to_first
     }
 }
 
@@ -60,19 +70,24 @@ impl ShiftSpeeds {
 /// ```
 /// use ylhovesko::gear::{shift_speeds, Vehicle};
 /// use ylhovesko::Ends;
-/// let vehicle = Vehicle { power: 300, mass: 200, rated: 8000, idle: 1200, gears: 3, ndv: [20_000, 12_000, 9_000, 0, 0, 0, 0, 0] };
+/// let vehicle = Vehicle { power: 300, mass: 200, rated: 8000, idle: 1200, gears: 3, ndv: [20_000, 12_000, 9_000, 0, 0, 0, 0, 0], rule_set: 1 };
 /// let speeds = shift_speeds(vehicle).unwrap();
 /// assert_eq!(speeds.upshifts(), [Ends { lower: 18_498, upper: 18_499 }, Ends { lower: 36_497, upper: 36_498 }]);
 /// assert_eq!(speeds.downshifts(), &speeds.upshifts()[..1]);
+/// assert_eq!(speeds.to_first(), None);
+/// let by_set_2 = shift_speeds(Vehicle { rule_set: 2, ..vehicle }).unwrap();
+/// assert_eq!(by_set_2.to_first(), Some(Ends { lower: 11_700, upper: 11_700 }));
 /// assert_eq!(shift_speeds(Vehicle { gears: 9, ..vehicle }).unwrap_err().number, 5);
 /// ```
 pub fn shift_speeds(vehicle: Vehicle) -> Result<ShiftSpeeds, Refusal> {
     agreed();
-    let SpeedsOutcome { outcome, count, upshift } = calls::shift_speeds(vehicle);
+    let SpeedsOutcome { outcome, count, upshift, to_first } = calls::shift_speeds(vehicle);
     let told = outcome.told();
     let (given, rest) = upshift.split_at(count as usize);
+    let to_first = Some(to_first).filter(|ends| *ends != Ends::default());
     assert!(rest.iter().all(|ends| *ends == Ends::default()) && (count == 0) == told.is_err(), "what is not given is 0");
-    told.map(|()| ShiftSpeeds(given.to_vec()))
+    assert_eq!(to_first.is_some(), told.is_ok() && vehicle.rule_set == 2, "what is not given is 0");
+    told.map(|()| ShiftSpeeds { upshifts: given.to_vec(), to_first })
 }
 
 /// Judges the two traces of a cycle: refusals 1 to 4 of the normal one, then of the reduced one, then 15.

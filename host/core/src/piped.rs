@@ -67,9 +67,10 @@ pub fn version() -> u32 {
 }
 
 fn put_vehicle(call: &mut Vec<u8>, vehicle: Vehicle) {
-    let Vehicle { power, mass, rated, idle, gears, ndv } = vehicle;
+    let Vehicle { power, mass, rated, idle, gears, ndv, rule_set } = vehicle;
     put_words(call, &[power, mass, rated, idle, gears]);
     put_words(call, &ndv);
+    put_words(call, &[rule_set]);
 }
 
 pub fn gears(trace: &[u8], vehicle: Vehicle, buffer: &mut [u8], start: usize) -> Outcome {
@@ -91,7 +92,12 @@ pub fn shift_speeds(vehicle: Vehicle) -> SpeedsOutcome {
     SERVER.with_borrow_mut(|server| server.call(&call, &mut answer));
     // the count has four bytes of padding behind it
     let mut ends = EndsIn(&answer[24..]);
-    SpeedsOutcome { outcome: outcome(&answer), count: number(&answer, 4), upshift: std::array::from_fn(|_| ends.ends()) }
+    SpeedsOutcome {
+        outcome: outcome(&answer),
+        count: number(&answer, 4),
+        upshift: std::array::from_fn(|_| ends.ends()),
+        to_first: ends.ends(),
+    }
 }
 
 pub fn judge_pair(normal: &[u8], reduced: &[u8]) -> Outcome {

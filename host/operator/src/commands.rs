@@ -95,6 +95,11 @@ pub fn demo(given: &[OsString]) -> Result<Told, Failure> {
     let normal: Vec<PathBuf> = traces.iter().step_by(2).cloned().collect();
     shown.push(Test::read(&vehicle.path, &normal, &bags)?.told(whole_test::Outputs::default())?);
     shown.push(speeds::of_vehicle(&vehicle, None)?);
+    let by_set_2 = files::vehicle(&folder.join("rule_set_2.vehicle"))?;
+    for trace in &normal {
+        shown.push(gears::of_trace(trace, &by_set_2, gears::Outputs::default())?);
+    }
+    shown.push(speeds::of_vehicle(&by_set_2, None)?);
     // the clutch out by engine speed, at 12.0 km/h
     let tall_second = files::vehicle(&folder.join("tall_second.vehicle"))?;
     shown.push(gears::of_trace(&folder.join("tall_second.wtr"), &tall_second, gears::Outputs::default())?);

@@ -32,7 +32,7 @@ pub fn gears(given: &[OsString]) -> Result<Told, Failure> {
 }
 
 pub fn of_trace(path: &Path, vehicle: &Given<Vehicle>, outputs: Outputs) -> Result<Told, Failure> {
-    let title = format!("Gears of {} for {}", files::name(path), files::name(&vehicle.path));
+    let title = format!("Gears of {} for {}", files::name(path), vehicle::name(vehicle));
     let trace = files::trace(path)?;
     Ok(of_bytes(&title, &trace.bytes, vehicle, outputs)?.noting(&trace.notes))
 }
@@ -43,7 +43,7 @@ pub fn of_pair(pair: &Pair, reduced_speed: bool, vehicle: &Given<Vehicle>, outpu
     }
     let (path, trace) = pair.chosen(reduced_speed);
     let which = if reduced_speed { "reduced" } else { "normal" };
-    let title = format!("Gears of {}, the {which} trace of its pair, for {}", files::name(path), files::name(&vehicle.path));
+    let title = format!("Gears of {}, the {which} trace of its pair, for {}", files::name(path), vehicle::name(vehicle));
     of_bytes(&title, trace, vehicle, outputs)
 }
 
@@ -53,7 +53,7 @@ fn of_bytes(title: &str, trace: &[u8], vehicle: &Given<Vehicle>, outputs: Output
         Err(refusal) => return Ok(Told::refused(line(trace, vehicle, refusal) + "\n").noting(&vehicle.notes)),
     };
     if let Some(path) = outputs.csv {
-        files::write(path, &row::csv(&row))?;
+        files::write(path, &row::csv(&row, vehicle.value.rule_set))?;
     }
     if let Some(path) = outputs.svg {
         files::write(path, &picture::svg(title, &row))?;

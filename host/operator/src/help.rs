@@ -32,11 +32,12 @@ usage: NAME gears TRACE VEHICLE [--csv FILE] [--svg FILE]
        NAME gears --pair NORMAL REDUCED VEHICLE [--reduced] [--csv FILE] [--svg FILE]
 
 Prints the gear and the clutch of a trace (a house file) for a vehicle sheet, a line for each run of seconds. The clutch is out at a stop, below
-10.0 km/h, and where the gear would turn the engine slower than idle + 0.03 (rated - idle).
+10.0 km/h, and where the gear would turn the engine slower than idle + 0.03 (rated - idle). Under rule set 2 a cruise or deceleration second
+whose engine would be slower than that in gear 2 is in gear 1.
 
   --pair        takes the normal and the reduced trace of a cycle, judges both, and prints the gears of the one that the switch names
   --reduced     the bench's reduced-speed switch is on: the reduced trace of the pair
-  --csv FILE    writes every second with its speed, phase, gear and clutch
+  --csv FILE    writes every second with its speed, phase, gear, clutch and rule set
   --svg FILE    writes a picture of the speed over time, in the colour of the gear, with the gears as steps and the seconds of the clutch out
 
 A vehicle sheet:
@@ -47,6 +48,7 @@ A vehicle sheet:
   idle = 1150       # idle speed, per minute
   gears = 6         # 3 to 8
   ndv 1 = 13366     # engine speed over road speed in gear 1, 0.01 per minute per km/h; and so on to the last gear
+  rule set = 1      # 1: global technical regulation No. 2; 2: chapter 2W-II of the Indian draft for two-wheelers
 
 For example:
   NAME gears demo/part1_normal.wtr demo/annex13.vehicle --csv row.csv --svg row.svg
@@ -57,9 +59,9 @@ pub const SPEEDS: &str = "\
 usage: NAME speeds VEHICLE [--csv FILE]
 
 Prints the upshift and the downshift speeds of a vehicle sheet in km/h. Each has two ends, rounded outward to 0.001 km/h, and the exact one lies
-between them.
+between them. The downshift from 2 to 1 is rule set 2's alone.
 
-  --csv FILE    writes every shift with its gears and its speed
+  --csv FILE    writes every shift with its gears, its speed and the rule set
 
 For example:
   NAME speeds demo/annex13.vehicle --csv speeds.csv
@@ -161,7 +163,9 @@ pub const DEMO: &str = "\
 usage: NAME demo [--from FOLDER]
 
 Prints, of the machine annex13.vehicle: its gears on the six traces part1_normal.wtr to part3_reduced.wtr, the result of low_nox.bags, its gears on
-the reduced trace of the pair of part 1, the whole test of the three normal traces and low_nox.bags, and its shift speeds.
+the reduced trace of the pair of part 1, the whole test of the three normal traces and low_nox.bags, and its shift speeds; of the same machine under
+rule set 2, rule_set_2.vehicle: its gears on the three normal traces and its shift speeds; and the gears of tall_second.vehicle on tall_second.wtr,
+whose clutch is out at 12.0 km/h.
 
   --from FOLDER    where these files are; 'demo' where it is not given
 

@@ -81,21 +81,21 @@ pub fn table(row: &[Second]) -> String {
 }
 
 /// What a second's line of comma-separated values has.
-const COLUMNS: &str = "second,speed in km/h,phase,gear,clutch";
+const COLUMNS: &str = "second,speed in km/h,phase,gear,clutch,rule set";
 
-fn csv_line(second: &Second) -> String {
+fn csv_line(second: &Second, rule_set: u32) -> String {
     let Second { number, speed, phase, gear, clutch_out } = *second;
-    format!("{number},{},{phase},{gear},{}\n", kilometres_an_hour(speed), clutch(clutch_out))
+    format!("{number},{},{phase},{gear},{},{rule_set}\n", kilometres_an_hour(speed), clutch(clutch_out))
 }
 
-/// The row in comma-separated values, a line a second.
-pub fn csv(row: &[Second]) -> String {
-    format!("{COLUMNS}\n{}", row.iter().map(csv_line).collect::<String>())
+/// The row in comma-separated values, a line a second, each with the rule set that the row is by.
+pub fn csv(row: &[Second], rule_set: u32) -> String {
+    format!("{COLUMNS}\n{}", row.iter().map(|second| csv_line(second, rule_set)).collect::<String>())
 }
 
 /// The parts of a test likewise, each second with that of the test and its part before it.
-pub fn csv_of_parts(rows: &[Row]) -> String {
+pub fn csv_of_parts(rows: &[Row], rule_set: u32) -> String {
     let parts = (1..).zip(rows).flat_map(|(part, row)| row.iter().map(move |second| (part, second)));
-    let lines = (1..).zip(parts).map(|(of_test, (part, second))| format!("{of_test},{part},{}", csv_line(second)));
+    let lines = (1..).zip(parts).map(|(of_test, (part, second))| format!("{of_test},{part},{}", csv_line(second, rule_set)));
     format!("second of the test,part,{COLUMNS}\n{}", lines.collect::<String>())
 }

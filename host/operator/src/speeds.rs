@@ -25,9 +25,9 @@ pub fn of_vehicle(vehicle: &Given<Vehicle>, csv: Option<&Path>) -> Result<Told, 
         }
     };
     if let Some(path) = csv {
-        files::write(path, &csv_of(&speeds))?;
+        files::write(path, &csv_of(&speeds, vehicle.value.rule_set))?;
     }
-    let title = format!("Shift speeds of {}", files::name(&vehicle.path));
+    let title = format!("Shift speeds of {}", vehicle::name(vehicle));
     Ok(Told::accepted(format!("{title}\n\n{}\n{}", table("Upshift", &speeds), table("Downshift", &speeds))).noting(&vehicle.notes))
 }
 
@@ -41,7 +41,8 @@ struct Shift {
 
 fn shifts(speeds: &ShiftSpeeds) -> Vec<Shift> {
     let up = (1..).zip(speeds.upshifts()).map(|(gear, ends)| Shift { word: "Upshift", from: gear, to: gear + 1, ends: *ends });
-    let down = (3..).zip(speeds.downshifts()).map(|(gear, ends)| Shift { word: "Downshift", from: gear, to: gear - 1, ends: *ends });
+    let downshifts = speeds.to_first().map(|ends| (2, ends)).into_iter().chain((3..).zip(speeds.downshifts().iter().copied()));
+    let down = downshifts.map(|(gear, ends)| Shift { word: "Downshift", from: gear, to: gear - 1, ends });
     up.chain(down).collect()
 }
 
@@ -61,9 +62,10 @@ fn table(word: &str, shifts: &[Shift]) -> String {
     lines
 }
 
-fn csv_of(shifts: &[Shift]) -> String {
+fn csv_of(shifts: &[Shift], rule_set: u32) -> String {
     let lines = shifts.iter().map(|Shift { word, from, to, ends }| {
-        format!("{},{from},{to},{},{}\n", word.to_lowercase(), kilometres_an_hour(ends.lower), kilometres_an_hour(ends.upper))
+        let (lower, upper) = (kilometres_an_hour(ends.lower), kilometres_an_hour(ends.upper));
+        format!("{},{from},{to},{lower},{upper},{rule_set}\n", word.to_lowercase())
     });
-    format!("shift,from gear,to gear,lower end in km/h,upper end in km/h\n{}", lines.collect::<String>())
+    format!("shift,from gear,to gear,lower end in km/h,upper end in km/h,rule set\n{}", lines.collect::<String>())
 }

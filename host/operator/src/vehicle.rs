@@ -1,6 +1,7 @@
 //! The vehicle sheet.
 
 use crate::field::{Form, Key, Range};
+use crate::files::{self, Given};
 use crate::refusals::Found;
 use crate::sheet::Sheet;
 use ylhovesko::gear::Vehicle;
@@ -23,6 +24,10 @@ const NDV: Range = Range::of(1_000, 100_000, "in 0.01 per minute per km/h");
 /// The most gears of a sheet.
 const MOST: u32 = 8;
 
+/// The last field, after the ratio of gear 8.
+const RULE_SET: u32 = FIELDS.len() as u32 + MOST + 1;
+const RULE_SETS: Range = Range::of(1, 2, "");
+
 fn ndv_key(gear: u32) -> String {
     format!("ndv {gear}")
 }
@@ -31,6 +36,7 @@ fn ndv_key(gear: u32) -> String {
 fn key_of(field: u32) -> Key {
     match FIELDS.get((field as usize).wrapping_sub(1)) {
         Some((name, range)) => Key::whole(name, *range),
+        None if field == RULE_SET => Key::whole("rule set", RULE_SETS),
         None => Key::whole(&ndv_key(field.saturating_sub(FIELDS.len() as u32)), NDV),
     }
 }
@@ -38,7 +44,8 @@ fn key_of(field: u32) -> Key {
 /// The keys of a vehicle with so many gears. Where that is no number of gears, the core reads no ratio.
 fn keys(gears: u32) -> Vec<Key> {
     let read = if gears <= MOST { gears } else { 0 };
-    let fields = (1..=FIELDS.len() as u32 + MOST).map(|field| Key { needed: field <= FIELDS.len() as u32 + read, ..key_of(field) });
+    let needed = |field| field <= FIELDS.len() as u32 + read || field == RULE_SET;
+    let fields = (1..=RULE_SET).map(|field| Key { needed: needed(field), ..key_of(field) });
     [Key::needed("sheet", Form::Kind)].into_iter().chain(fields).collect()
 }
 
@@ -64,8 +71,14 @@ pub fn vehicle_of(sheet: Sheet) -> (Vehicle, Sheet) {
         idle: head.unsigned("idle"),
         gears,
         ndv: std::array::from_fn(|i| head.unsigned(&ndv_key(i as u32 + 1))),
+        rule_set: head.unsigned("rule set"),
     };
     (vehicle, sheet)
+}
+
+/// `annex13.vehicle, rule set 1`, by which everything that is worked out of a sheet is named.
+pub fn name(vehicle: &Given<Vehicle>) -> String {
+    format!("{}, rule set {}", files::name(&vehicle.path), vehicle.value.rule_set)
 }
 
 /// Where a refusal of a vehicle sheet lies, and what stands there.

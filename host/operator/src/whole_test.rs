@@ -3,7 +3,7 @@
 use crate::arguments::Arguments;
 use crate::files::{self, Given};
 use crate::trace::Trace;
-use crate::{bags, gears, picture, refusals, result_sheet, row, Failure, Told};
+use crate::{bags, gears, picture, refusals, result_sheet, row, vehicle, Failure, Told};
 use row::Row;
 use std::ffi::OsString;
 use std::path::{Path, PathBuf};
@@ -50,7 +50,7 @@ impl Test {
         };
         self.has_a_trace_for_each_part()?;
         if let Some(path) = outputs.csv {
-            files::write(path, &row::csv_of_parts(&rows))?;
+            files::write(path, &row::csv_of_parts(&rows, self.vehicle.value.rule_set))?;
         }
         if let Some(path) = outputs.svg {
             files::write(path, &picture::svg(&self.title(), &row::joined(&rows)))?;
@@ -85,7 +85,7 @@ impl Test {
     }
 
     fn title(&self) -> String {
-        format!("Test of {}, class {}", files::name(&self.vehicle.path), self.bags.value.class)
+        format!("Test of {}, class {}", vehicle::name(&self.vehicle), self.bags.value.class)
     }
 
     fn notes(&self) -> String {

@@ -6,13 +6,14 @@ mod common;
 use common::*;
 
 /// Each field of the vehicle sheet and of a bag sheet: its key as it first stands in the demo, its place, its range and unit.
-const VEHICLE: [(&str, &str, i64, i64, &str); 6] = [
+const VEHICLE: [(&str, &str, i64, i64, &str); 7] = [
     ("power", "field 1", 1, 3_000, " in 0.1 kW"),
     ("mass", "field 2", 30, 1_000, " kg"),
     ("rated", "field 3", 1_000, 20_000, " per minute"),
     ("idle", "field 4", 300, 3_000, " per minute"),
     ("gears", "field 5", 3, 8, ""),
     ("ndv 4", "field 9", 1_000, 100_000, " in 0.01 per minute per km/h"),
+    ("rule set", "field 14", 1, 2, ""),
 ];
 const BAGS: [(&str, &str, i64, i64, &str); 24] = [
     ("triple d", "test, field 10", 100, 200, " in tenths"),
@@ -170,7 +171,7 @@ fn sheets_with_nothing_but_their_kind() {
         "{}",
         told.out
     );
-    assert_eq!(told.errors.matches(" is missing, expected is a whole number, ").count(), 5, "{}", told.errors);
+    assert_eq!(told.errors.matches(" is missing, expected is a whole number, ").count(), 6, "{}", told.errors);
     let told = run(&["check", &stored("bare.bags", "sheet = bags\nclass = 3\n")]);
     assert!(told.out.contains(": refused: 10 class not 1 to 3, or wrong number of parts: class 3, parts 0; "), "{}", told.out);
     assert_eq!(told.errors.matches(" is missing, expected is a whole number, ").count(), 12, "{}", told.errors);

@@ -12,7 +12,7 @@ fn shifts(sheet: &str, file: &str) -> Vec<(String, i64, i64)> {
     let told = run(&["speeds", sheet, "--csv", &csv]);
     assert_eq!((told.errors.as_str(), told.code), ("", Some(0)));
     let lines = fs::read_to_string(csv).unwrap();
-    assert_eq!(lines.lines().next(), Some("shift,from gear,to gear,lower end in km/h,upper end in km/h"));
+    assert_eq!(lines.lines().next(), Some("shift,from gear,to gear,lower end in km/h,upper end in km/h,rule set"));
     lines.lines().skip(1).map(shift).collect()
 }
 
@@ -44,10 +44,20 @@ fn speeds_of_annex_13() {
     }
 }
 
+/// Table Ap8-4 of the Indian draft has these speeds too, and one more: "2 to cl", the downshift 2 to 1 of its equation 2.7.
+#[test]
+fn rule_set_2_has_one_speed_more() {
+    let by_1 = shifts(&of_demo("annex13.vehicle"), "by_set_1.csv");
+    let mut by_2 = shifts(&of_demo("rule_set_2.vehicle"), "by_set_2.csv");
+    assert_eq!(by_2.remove(5), ("downshift 2 to 1".to_string(), 15_483, 15_484));
+    assert_eq!(by_1, by_2);
+}
+
 #[test]
 fn speeds_are_printed() {
     let told = run(&["speeds", &of_demo("annex13.vehicle")]);
-    let lines = ["Shift speeds of annex13.vehicle", "", "Upshift, km/h                            lower end            upper end"];
+    let lines =
+        ["Shift speeds of annex13.vehicle, rule set 1", "", "Upshift, km/h                            lower end            upper end"];
     assert!(told.out.lines().take(3).eq(lines), "{}", told.out);
     for (name, lower, upper) in shifts(&of_demo("annex13.vehicle"), "printed.csv") {
         let km_h = |thousandths: i64| format!("{}.{:03}", thousandths / 1000, thousandths % 1000);
@@ -60,7 +70,7 @@ fn speeds_are_printed() {
 fn three_gears_have_three_shifts() {
     let sheet = stored(
         "three.vehicle",
-        "sheet = vehicle\npower = 300\nmass = 200\nrated = 8000\nidle = 1200\ngears = 3\nndv 1 = 20000\nndv 2 = 12000\nndv 3 = 9000\n",
+        "sheet = vehicle\npower = 300\nmass = 200\nrated = 8000\nidle = 1200\ngears = 3\nndv 1 = 20000\nndv 2 = 12000\nndv 3 = 9000\nrule set = 1\n",
     );
     let names: Vec<String> = shifts(&sheet, "three.csv").into_iter().map(|(name, ..)| name).collect();
     assert_eq!(names, ["upshift 1 to 2", "upshift 2 to 3", "downshift 3 to 2"]);
@@ -76,7 +86,7 @@ fn gears_change_at_the_speeds() {
             let trace = stored("beside.wtr", [b'W', b'T', b'R', 0, 1, 0, 1, 0, low, high, 1, 0]);
             let csv = to_be_made("beside.csv");
             run(&["gears", &trace, &vehicle, "--csv", &csv]);
-            let line = format!("1,{}.{},acceleration,{expected},in", tenths / 10, tenths % 10);
+            let line = format!("1,{}.{},acceleration,{expected},in,1", tenths / 10, tenths % 10);
             assert_eq!(fs::read_to_string(csv).unwrap().lines().last(), Some(line.as_str()));
         }
     }

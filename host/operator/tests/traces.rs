@@ -37,6 +37,36 @@ fn a_tall_second_gear_has_its_clutch_out_at_12_km_h() {
     assert_eq!((told.errors.as_str(), told.code), ("", Some(0)));
 }
 
+/// The lines of the row of a demo's trace, without their rule set.
+fn row_lines(trace: &str, vehicle: &str, file: &str) -> Vec<String> {
+    let csv = to_be_made(file);
+    let told = run(&["gears", &of_demo(trace), &of_demo(vehicle), "--csv", &csv]);
+    assert_eq!((told.errors.as_str(), told.code), ("", Some(0)));
+    assert!(told.out.lines().next().unwrap().contains(&format!(" for {vehicle}, rule set ")), "{}", told.out);
+    let lines = fs::read_to_string(csv).unwrap();
+    lines.lines().skip(1).map(|line| line.rsplit_once(',').unwrap().0.to_string()).collect()
+}
+
+/// Annex 13's machine under both rule sets: set 2 has gear 1 where set 1 has gear 2 in deceleration below 15.5 km/h, and nothing else differs.
+#[test]
+fn the_two_rule_sets_on_the_cycle() {
+    for (part, differing) in [(1, 24), (2, 6), (3, 3)] {
+        let trace = format!("part{part}_normal.wtr");
+        let by_1 = row_lines(&trace, "annex13.vehicle", &format!("set_1_{part}.csv"));
+        let by_2 = row_lines(&trace, "rule_set_2.vehicle", &format!("set_2_{part}.csv"));
+        let pairs = by_1.iter().zip(&by_2).filter(|(one, two)| one != two);
+        let gears: Vec<(&str, f64, &str, &str)> = pairs.map(|(one, two)| differing_second(one, two)).collect();
+        assert_eq!(gears.len(), differing, "part {part}");
+        assert!(gears.iter().all(|&(phase, speed, one, two)| (phase, one, two) == ("deceleration", "2", "1") && speed < 15.5), "{gears:?}");
+    }
+}
+
+/// The phase, the speed and the gear by each set of a second whose gears differ.
+fn differing_second<'a>(one: &'a str, two: &'a str) -> (&'a str, f64, &'a str, &'a str) {
+    let (one, two): (Vec<&str>, Vec<&str>) = (one.split(',').collect(), two.split(',').collect());
+    (one[2], one[1].parse().unwrap(), one[3], two[3])
+}
+
 #[test]
 fn tables_come_from_the_traces() {
     for name in CYCLES {
@@ -190,7 +220,7 @@ fn gears_of_a_pair() {
         let told = run(&[&["gears", "--pair", &normal, &reduced, &vehicle], switch].concat());
         assert_eq!((told.errors.as_str(), told.code), ("", Some(0)));
         let (title, row) = told.out.split_once('\n').unwrap();
-        assert_eq!(title, format!("Gears of part1_{which}.wtr, the {which} trace of its pair, for annex13.vehicle"));
+        assert_eq!(title, format!("Gears of part1_{which}.wtr, the {which} trace of its pair, for annex13.vehicle, rule set 1"));
         let alone = run(&["gears", trace, &vehicle]).out;
         assert_eq!(row, alone.split_once('\n').unwrap().1);
     }
@@ -225,7 +255,7 @@ fn gears_in_other_forms() {
     let told = run(&["gears", &of_demo("part1_normal.wtr"), &of_demo("annex13.vehicle"), "--csv", &csv, "--svg", &svg]);
     assert_eq!((told.code, told.errors.as_str()), (Some(0), ""));
     let lines = fs::read_to_string(csv).unwrap();
-    assert!(lines.starts_with("second,speed in km/h,phase,gear,clutch\n1,0.0,stop,0,out\n"), "{lines}");
+    assert!(lines.starts_with("second,speed in km/h,phase,gear,clutch,rule set\n1,0.0,stop,0,out,1\n"), "{lines}");
     assert_eq!(lines.lines().count(), 601);
     let picture = fs::read_to_string(svg).unwrap();
     assert!(picture.starts_with("<svg ") && picture.ends_with("</svg>\n"));

@@ -27,7 +27,7 @@ fn body(text: &str) -> &str {
 fn a_test_is_its_gears_and_its_result() {
     let (vehicle, bags) = (of_demo("annex13.vehicle"), of_demo("low_nox.bags"));
     let told = test(&vehicle, &traces(), &bags, &[]);
-    let mut expected = "Test of annex13.vehicle, class 3\n\n".to_string();
+    let mut expected = "Test of annex13.vehicle, rule set 1, class 3\n\n".to_string();
     for (i, name) in TRACES.iter().enumerate() {
         let row = run(&["gears", &of_demo(name), &vehicle]).out;
         let (first, last) = (600 * i + 1, 600 * i + 600);
@@ -43,7 +43,7 @@ fn a_test_in_other_forms() {
     let [row, picture, result] = ["test.csv", "test.svg", "test_result.csv"].map(to_be_made);
     let told = test(&vehicle, &traces(), &bags, &["--csv", &row, "--svg", &picture, "--result-csv", &result]);
     assert_eq!((told.errors.as_str(), told.code), ("", Some(0)));
-    let mut expected = "second of the test,part,second,speed in km/h,phase,gear,clutch\n".to_string();
+    let mut expected = "second of the test,part,second,speed in km/h,phase,gear,clutch,rule set\n".to_string();
     for (i, trace) in traces().iter().enumerate() {
         let alone = to_be_made("test_part.csv");
         run(&["gears", trace, &vehicle, "--csv", &alone]);
@@ -52,7 +52,7 @@ fn a_test_in_other_forms() {
     }
     assert!(fs::read_to_string(row).unwrap() == expected);
     let picture = fs::read_to_string(picture).unwrap();
-    assert!(picture.contains(">Test of annex13.vehicle, class 3</text>") && picture.contains(">1800</text>"));
+    assert!(picture.contains(">Test of annex13.vehicle, rule set 1, class 3</text>") && picture.contains(">1800</text>"));
     let alone = to_be_made("result.csv");
     run(&["result", &bags, "--csv", &alone]);
     assert_eq!(fs::read_to_string(result).unwrap(), fs::read_to_string(alone).unwrap());

@@ -5,7 +5,7 @@ use Rattle.boundary.proofs.no_speeds.Tie as tie
 
 returns : tie.Need-returns
 unfolding noSpeeds
-returns c = simp (c .exactly .ensures)
+returns c = simp (c .exactly2 .ensures, c .before .exactly .ensures)
 
 pub no-speeds-spec : {M : Type 1} → statement M
-no-speeds-spec = tie.close (tie.spec (λ c κs. tt) returns)
+no-speeds-spec = tie.close (tie.spec (λ c κs. tt) (λ c κs. tt) returns)

@@ -24,7 +24,7 @@ of-vehicle-requires c κs = accepted-sound _ (accepted c)
 returns-2 : tie.Need-returns-2
 unfolding speedsOut
 returns-2 c =
-    let made = c .before .before in
+    let made = c .before .before .before in
     let told = made .before in
     simp (accepted told, made .of-vehicle .ensures, c .outcome-of2 .ensures, told .enum-told .given .1)
 

@@ -1,39 +1,23 @@
--- `shift::own_gear` meets its contract: one more speed counts in acceleration. Assumes nothing.
-use native.Mathlib.Omega.{arith}
+-- `shift::own_gear` meets its contract: gear 1 goes first, and every other second has the gear of set 1. Assumes nothing.
+use mathlib.Core.Path.{sym, ap, _∙_}
 use borrow.Author.Needs.{needs}
-use Rattle.shift.specs.Speeds.{ownGear}
-use Rattle.shift.proofs.Sides.{fewer}
+use Rattle.shift.proofs.Sets.{first, taken, left}
 use Rattle.shift.proofs.own_gear.Statement.{statement}
 use Rattle.shift.proofs.own_gear.Tie as tie
 
-compared-all-requires : tie.Need-compared-all-requires
-compared-all-requires c κs = let s = c .before .before .before in (fewer _ (omega arith) (s .pre .0 .range), s .pre .1)
-
 returns : tie.Need-returns
-unfolding ownGear
 returns c =
-    let after = c .before .before in
-    rw (after .before .if1 .taken, after .compared-all .ensures .0)
-
-compared-all-requires-2 : tie.Need-compared-all-requires-2
-compared-all-requires-2 c κs = let s = c .before .before .before in (fewer _ (omega arith) (s .pre .0 .range), s .pre .1)
+    let tested = c .before in
+    let own = tested .before in
+    let a = own .before .args in
+    ap first (own .by-set-1 .ensures) ∙ sym (taken (a .s) (a .speed) (a .accelerating) (sym (tested .goes-first .ensures) ∙ c .if1 .taken))
 
 returns-2 : tie.Need-returns-2
-unfolding ownGear
 returns-2 c =
-    let after = c .before .before in
-    rw (after .before .if1 .left, after .compared-all2 .ensures .0)
+    let tested = c .before in
+    let own = tested .before in
+    let a = own .before .args in
+    own .by-set-1 .ensures ∙ sym (left (a .s) (a .speed) (a .accelerating) (sym (tested .goes-first .ensures) ∙ c .if1 .left))
 
 pub own-gear-spec : {M : Type 1} → statement M
-own-gear-spec =
-    tie.close
-    (tie.spec
-    (λ c. search needs)
-    (λ c. search needs)
-    compared-all-requires
-    (λ c. search needs)
-    returns
-    (λ c. search needs)
-    compared-all-requires-2
-    (λ c. search needs)
-    returns-2)
+own-gear-spec = tie.close (tie.spec (λ c κs. search needs) (λ c κs. search needs) returns returns-2)

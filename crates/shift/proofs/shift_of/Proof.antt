@@ -32,13 +32,16 @@ side-requires-2 c κs =
     let part = c .before .before .before .before .before in
     rw (part-is part) (higher-fits (part .before .before .before .before .pre))
 
+lowest-requires : tie.Need-lowest-engine-speed-requires
+lowest-requires c κs = search needs
+
 returns : tie.Need-returns
 unfolding shiftOf firstSide higherSide
 returns c =
-    let d = c .before .before .before .before in
-    let first = rw (less-is d) at (c .before .side .ensures) in
-    let higher = rw (part-is (d .before .before)) at (c .side2 .ensures) in
-    rw (first, higher)
+    let d = c .before .before .before .before .before in
+    let first = rw (less-is d) at (c .before .before .side .ensures) in
+    let higher = rw (part-is (d .before .before)) at (c .before .side2 .ensures) in
+    rw (first, higher, c .lowest-engine-speed .ensures)
 
 pub shift-of-spec : {M : Type 1} → statement M
 shift-of-spec =
@@ -54,4 +57,5 @@ shift-of-spec =
     (λ c. search needs)
     side-requires
     side-requires-2
+    lowest-requires
     returns)

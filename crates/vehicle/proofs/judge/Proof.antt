@@ -7,7 +7,7 @@ use borrow.Author.Needs.{needs}
 use Rattle.refusal.specs.declared.Judged.the-variants.{Accepted}
 use Rattle.refusal.specs.Judging.{judgedBy}
 use Rattle.vehicle.specs.declared.VehicleSheet.{VehicleSheet}
-use Rattle.vehicle.specs.Sheet.{engineChecks, judgeGears, judgeVehicle}
+use Rattle.vehicle.specs.Sheet.{engineChecks, judgeGears, ruleChecks, judgeVehicle}
 use Rattle.vehicle.proofs.Sound.{engine-ranged}
 use Rattle.vehicle.proofs.judge.Statement.{statement}
 use Rattle.vehicle.proofs.judge.Tie as tie
@@ -33,12 +33,22 @@ ratios-told c = engine-told (c .before .before)
 ratios : (c : tie.After-enum-told3) → judgeGears false (sheet (ratios-told c) .ndv) 0 (sheet (ratios-told c) .gears) ≡ Accepted
 ratios c = sym (c .before .before .judge-gears .ensures) ∙ c .enum-told3 .given .1
 
--- and past the third they fall
-abbrev before-fall : tie.After-enum-told5 → tie.After-enum-told3
+-- past the third the rule set is one
+abbrev before-rules : tie.After-enum-told5 → tie.After-enum-told3
+before-rules c = c .before .before .before
+
+abbrev rules-told : tie.After-enum-told5 → tie.After-enum-told
+rules-told c = ratios-told (before-rules c)
+
+rules : (c : tie.After-enum-told5) → judgedBy (ruleChecks (sheet (rules-told c))) ≡ Accepted
+rules c = sym (c .before .before .ranged .ensures) ∙ c .enum-told5 .given .1
+
+-- and past the fourth the gears fall
+abbrev before-fall : tie.After-enum-told7 → tie.After-enum-told5
 before-fall c = c .before .before .before
 
-fall : (c : tie.After-enum-told5) → let v = sheet (ratios-told (before-fall c)) in judgeGears true (v .ndv) 0 (v .gears - 1) ≡ Accepted
-fall c = sym (c .before .before .judge-gears2 .ensures) ∙ c .enum-told5 .given .1
+fall : (c : tie.After-enum-told7) → let v = sheet (rules-told (before-fall c)) in judgeGears true (v .ndv) 0 (v .gears - 1) ≡ Accepted
+fall c = sym (c .before .before .judge-gears2 .ensures) ∙ c .enum-told7 .given .1
 
 returns : tie.Need-returns
 unfolding judgeVehicle
@@ -53,26 +63,36 @@ returns-2 c =
     let judged = c .before .before in
     simp (engine (engine-told judged), sym (judged .judge-gears .ensures), c .enum-told4 .given .1)
 
-sub-judge-gears : tie.Need-sub-judge-gears
-sub-judge-gears c = omega (arith, gears-range (ratios-told c))
-
-judge-gears-requires-2 : tie.Need-judge-gears-requires-2
-judge-gears-requires-2 c κs =
-    let gears = gears-range (ratios-told c) in
-    record { here = omega (arith, gears); next = λ e. omega (arith, gears) }
-
 returns-3 : tie.Need-returns-3
 unfolding judgeVehicle
 returns-3 c =
     let judged = c .before .before in
     let told = judged .before in
-    simp (engine (ratios-told told), ratios told, sym (judged .judge-gears2 .ensures), c .enum-told6 .given .1)
+    simp (engine (ratios-told told), ratios told, sym (judged .ranged .ensures), c .enum-told6 .given .1)
+
+sub-judge-gears : tie.Need-sub-judge-gears
+sub-judge-gears c = omega (arith, gears-range (rules-told c))
+
+judge-gears-requires-2 : tie.Need-judge-gears-requires-2
+judge-gears-requires-2 c κs =
+    let gears = gears-range (rules-told c) in
+    record { here = omega (arith, gears); next = λ e. omega (arith, gears) }
 
 returns-4 : tie.Need-returns-4
 unfolding judgeVehicle
 returns-4 c =
+    let judged = c .before .before in
+    let told = judged .before in
+    let last = before-rules told in
+    simp (engine (ratios-told last), ratios last, rules told, sym (judged .judge-gears2 .ensures), c .enum-told8 .given .1)
+
+returns-5 : tie.Need-returns-5
+unfolding judgeVehicle
+returns-5 c =
     let told = c .before .before .before in
-    simp (engine (ratios-told (before-fall told)), ratios (before-fall told), fall told) (c .check .ensures)
+    let set = before-fall told in
+    let last = before-rules set in
+    simp (engine (ratios-told last), ratios last, rules set, fall told) (c .check .ensures)
 
 pub judge-spec : {M : Type 1} → statement M
 judge-spec =
@@ -87,15 +107,19 @@ judge-spec =
     (λ c. search needs)
     (λ c. search needs)
     returns-2
+    (λ c κs. tt)
+    (λ c. search needs)
+    (λ c. search needs)
+    returns-3
     sub-judge-gears
     judge-gears-requires-2
     (λ c. search needs)
     (λ c. search needs)
-    returns-3
+    returns-4
     (λ c. search needs)
     (λ c. search needs)
     (λ c. search needs)
     (λ c. search needs)
     (λ c. search needs)
     (λ c κs. tt)
-    returns-4)
+    returns-5)
