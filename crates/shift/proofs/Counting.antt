@@ -1,7 +1,7 @@
--- The laws of `count`: one place more, and no more than there are. Assumes nothing.
-use mathlib.Core.Path.{_≡_, ap}
+-- The laws of `count`: one place more, no more than there are, and by what holds of each place alone. Assumes nothing.
+use mathlib.Core.Path.{_≡_, refl, ap}
 use mathlib.Core.Bool.{Bool, true, false, cond}
-use Prim.Native.Nat.{ℕ, zero, suc, _+_, _≤_}
+use Prim.Native.Nat.{ℕ, zero, suc, _+_, _≤_, _<_}
 use native.Mathlib.Numerals.{add-one}
 use native.Mathlib.Omega.{arith}
 use Rattle.arith.specs.declared.Ends.{Ends}
@@ -21,3 +21,8 @@ module _ (holds : ℕ → Bool) where
   pub count-most : (n : ℕ) → count holds n ≤ n
   count-most zero = omega arith
   count-most (suc n) = omega (arith, count-most n, one-most (holds n))
+
+-- what holds of the same places is counted the same
+pub count-same : (f g : ℕ → Bool) (n : ℕ) → ((i : ℕ) → i < n → f i ≡ g i) → count f n ≡ count g n
+count-same f g zero same = refl
+count-same f g (suc n) same = (λ i. count-same f g n (λ k l. same k (omega arith)) i + cond (same n (omega arith) i) 1 0)

@@ -96,7 +96,7 @@ first-value : (t h g c w n end : ℤ)
 first-value t h g c w n end = simp (one-mul, mul-one, mul-add, sub-mul, mul-neg, products)
 
 -- an accepted sheet's s is above its n
-above-idle : {v : VehicleSheet} → Sound v → aboveIdle v ≡ whole (pos (v .rated - v .idle))
+pub above-idle : {v : VehicleSheet} → Sound v → aboveIdle v ≡ whole (pos (v .rated - v .idle))
 above-idle {v} sound =
     let apart = sound .ranged .apart in
     let e : pos 1 *ℤ pos (v .rated) -ℤ pos 1 *ℤ pos (v .idle) ≡ pos (v .rated - v .idle) = omega (zs, sub-parts (pos (1 * v .rated)) (pos (1 * v .idle))) in

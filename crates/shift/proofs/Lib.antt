@@ -5,3 +5,4 @@ pub mod ExactTerms
 pub mod ExactSpeeds
 pub mod Examples
 pub mod Sets
+pub mod Cruise

@@ -2,3 +2,4 @@ pub mod Exponential
 pub mod Fitting
 pub mod Speeds
 pub mod Exact
+pub mod Cruise
