@@ -4,7 +4,8 @@ use crate::figure::Figure;
 use crate::trace::{self, Phase, Second};
 use crate::{at, check, nowhere, Refusal};
 
-/// The vehicle sheet in the paper's letters: P in 0.1 kW, m in kg, s and n per minute, ndv in 0.01 per minute per km/h.
+/// The vehicle sheet in the paper's letters: P in 0.1 kW, m in kg, s and n per minute, ndv in 0.01 per minute per km/h. The rule set is "1 or 2, last in its
+/// listing" (02, M-101): 01's rules, or chapter 2W-II of document 004.
 #[derive(Clone, Copy, Debug, PartialEq, Eq)]
 pub struct Vehicle {
     pub p: u32,
@@ -13,6 +14,7 @@ pub struct Vehicle {
     pub n: u32,
     pub ng: u32,
     pub ndv: [u32; 8],
+    pub rule_set: u32,
 }
 
 /// Refusals 5, 6 and 7.
@@ -26,6 +28,7 @@ fn judge(v: &Vehicle) -> Result<(), Refusal> {
     for (gear, each) in (1..).zip(ndv) {
         check((1000..=100_000).contains(each), at(5, 5 + gear))?;
     }
+    check((1..=2).contains(&v.rule_set), at(5, 14))?;
     for (gear, pair) in (2..).zip(ndv.windows(2)) {
         check(pair[1] < pair[0], at(6, gear))?;
     }
@@ -220,7 +223,7 @@ fn correction_6(seconds: &[Second], row: &mut [u8]) {
 ///
 /// ```
 /// use plain::gear::{three_per_cent, Vehicle};
-/// let vehicle = Vehicle { p: 300, m: 200, s: 8000, n: 1200, ng: 3, ndv: [20_000, 12_000, 9_000, 0, 0, 0, 0, 0] };
+/// let vehicle = Vehicle { p: 300, m: 200, s: 8000, n: 1200, ng: 3, ndv: [20_000, 12_000, 9_000, 0, 0, 0, 0, 0], rule_set: 1 };
 /// assert_eq!(three_per_cent(&vehicle), 1_404_000);
 /// ```
 pub fn three_per_cent(v: &Vehicle) -> u32 {
@@ -238,7 +241,7 @@ fn clutch(v: &Vehicle, second: &Second, gear: u8) -> u8 {
 ///
 /// ```
 /// use plain::gear::{write_gears, Vehicle};
-/// let vehicle = Vehicle { p: 300, m: 200, s: 8000, n: 1200, ng: 3, ndv: [20_000, 12_000, 9_000, 0, 0, 0, 0, 0] };
+/// let vehicle = Vehicle { p: 300, m: 200, s: 8000, n: 1200, ng: 3, ndv: [20_000, 12_000, 9_000, 0, 0, 0, 0, 0], rule_set: 1 };
 /// let stop = [b'W', b'T', b'R', 0, 1, 0, 1, 0, 0, 0, 0, 0];
 /// let mut buffer = [7; 4];
 /// write_gears(&stop, &vehicle, &mut buffer, 1).unwrap();
@@ -269,8 +272,9 @@ mod known_rows {
 
     use super::*;
 
-    /// Table A13-1.
-    const MACHINE: Vehicle = Vehicle { p: 720, m: 199, s: 11_800, n: 1150, ng: 6, ndv: [13_366, 9491, 7616, 6569, 5885, 5404, 0, 0] };
+    /// Table A13-1, and table Ap8-2 of 004.
+    const MACHINE: Vehicle =
+        Vehicle { p: 720, m: 199, s: 11_800, n: 1150, ng: 6, ndv: [13_366, 9491, 7616, 6569, 5885, 5404, 0, 0], rule_set: 1 };
 
     fn second(phase: Phase, speed: u32) -> Second {
         Second { speed, phase, no_gear_shift: false, no_first_gear: false }
