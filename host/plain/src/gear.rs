@@ -80,21 +80,33 @@ pub fn speeds(v: &Vehicle) -> Speeds {
     }
 }
 
-/// The upshift speeds of a vehicle in 0.001 km/h, from gear 1 on; or the first of the refusals 5 to 7. As include/ylhovesko.h says, "first the engine
-/// speed at which gears are shifted" is rounded outward "to 1/10,000 per minute, then that over ndv", whose unit is 0.01 per minute per km/h.
+/// The shift speeds of a vehicle in 0.001 km/h: the upshifts from gear 1 on, and the downshift 2 to 1, which rule set 2 alone has.
+#[derive(Debug)]
+pub struct ShiftSpeeds {
+    pub upshifts: Vec<Figure>,
+    pub to_first: Option<Figure>,
+}
+
+/// The shift speeds of a vehicle, or the first of the refusals 5 to 7. As include/ylhovesko.h says of the upshifts, "first the engine speed at which gears
+/// are shifted" is rounded outward "to 1/10,000 per minute, then that over ndv", whose unit is 0.01 per minute per km/h. The engine speed of the downshift
+/// 2 to 1 is exact, so that it is rounded once.
 ///
 /// ```
 /// use plain::gear::{shift_speeds, Vehicle};
-/// let vehicle = Vehicle { p: 300, m: 200, s: 8000, n: 1200, ng: 3, ndv: [20_000, 12_000, 9_000, 0, 0, 0, 0, 0] };
-/// let ends: Vec<_> = shift_speeds(&vehicle).unwrap().iter().map(|speed| (speed.lower, speed.upper)).collect();
-/// assert_eq!(ends, [(18_498, 18_499), (36_497, 36_498)]);
+/// let vehicle = Vehicle { p: 300, m: 200, s: 8000, n: 1200, ng: 3, ndv: [20_000, 12_000, 9_000, 0, 0, 0, 0, 0], rule_set: 2 };
+/// let speeds = shift_speeds(&vehicle).unwrap();
+/// let ends: Vec<_> = speeds.upshifts.iter().chain(&speeds.to_first).map(|speed| (speed.lower, speed.upper)).collect();
+/// assert_eq!(ends, [(18_498, 18_499), (36_497, 36_498), (11_700, 11_700)]);
+/// assert!(shift_speeds(&Vehicle { rule_set: 1, ..vehicle }).unwrap().to_first.is_none());
 /// assert_eq!(shift_speeds(&Vehicle { ng: 9, ..vehicle }).unwrap_err().at, 5);
 /// ```
-pub fn shift_speeds(v: &Vehicle) -> Result<Vec<Figure>, Refusal> {
+pub fn shift_speeds(v: &Vehicle) -> Result<ShiftSpeeds, Refusal> {
     judge(v)?;
     let Speeds { ndv, lower, upper } = speeds(v);
     let engine = lower.into_iter().zip(upper).map(|(lower, upper)| Figure::over(lower, upper, ONE));
-    Ok(engine.zip(ndv).map(|(engine, ndv)| engine.scaled(10, ndv)).collect())
+    let upshifts = engine.zip(ndv).map(|(engine, ndv)| engine.scaled(10, ndv)).collect();
+    let to_first = Figure::of(100 * i128::from(three_per_cent(v)), v.ndv[1].into());
+    Ok(ShiftSpeeds { upshifts, to_first: (v.rule_set == 2).then_some(to_first) })
 }
 
 impl Speeds {
@@ -302,7 +314,7 @@ mod known_rows {
     fn annex_13() {
         let (unit, band) = (10_000 * ONE, i128::from(MACHINE.s - MACHINE.n));
         let shift = speeds(&MACHINE);
-        let printed = shift_speeds(&MACHINE).unwrap();
+        let printed = shift_speeds(&MACHINE).unwrap().upshifts;
         assert!(printed.iter().map(|speed| in_tenths(speed.lower, 1000)).eq([285, 513, 639, 741, 827]));
         assert!(printed.iter().map(|speed| in_tenths(speed.upper, 1000)).eq([285, 513, 639, 741, 827]));
         for sides in [&shift.lower, &shift.upper] {
