@@ -1,5 +1,6 @@
-//! The figures of a test and the shift speeds by document 001's equations as they are printed, in its own units and as fractions: what they are with no
-//! rounding after the readings' units. None of 01's whole-number forms is used, so that a slip in one of those shows here.
+//! The figures of a test and the shift speeds by document 001's equations as they are printed, and the shift speeds of rule set 2 by document 004's, in their
+//! own units and as fractions: what they are with no rounding after the readings' units. None of 01's whole-number forms is used, so that a slip in one of
+//! those shows here.
 
 use crate::bags::{judge, weights, Part, Readings, Sheet, NOX};
 use crate::fraction::{decimal, Fraction};
@@ -115,10 +116,44 @@ pub fn series(v: &Vehicle, last: i128) -> Fraction {
     (1..=last).rev().fold(whole(1), |sum, k| whole(1).minus(x.times(sum).over(whole(k))))
 }
 
-/// Equations 6-1 and 6-2, the latter over ndv(i): the upshift speed from a gear in 0.001 km/h, with e for e to the power -x.
-pub fn upshift(v: &Vehicle, gear: usize, e: Fraction) -> Fraction {
-    let share = decimal("0.5753").times(e).minus(decimal(if gear == 1 { "0.1" } else { "0" }));
+/// A shift speed in 0.001 km/h: n and a share of (s - n), over ndv of a gear.
+fn shift_speed(v: &Vehicle, share: Fraction, gear: usize) -> Fraction {
     let engine = share.times(whole(v.s).minus(whole(v.n))).plus(whole(v.n));
     let ndv = Fraction::new(v.ndv[gear - 1].into(), 100);
     engine.over(ndv).times(whole(1000))
+}
+
+/// "0.5753 e" less something, with e for e to the power -x.
+fn share(e: Fraction, less: &str) -> Fraction {
+    decimal("0.5753").times(e).minus(decimal(less))
+}
+
+/// Equations 6-1 and 6-2, the latter over ndv(i): the upshift speed from a gear in 0.001 km/h, with e for e to the power -x. They are 004's equations 2-3 and
+/// 2-4, where m + 75 is the reference mass.
+pub fn upshift(v: &Vehicle, gear: usize, e: Fraction) -> Fraction {
+    shift_speed(v, share(e, if gear == 1 { "0.1" } else { "0" }), gear)
+}
+
+/// 004's equation 2.7, the downshift speed from gear 2 to gear 1 in 0.001 km/h.
+pub fn to_first(v: &Vehicle) -> Fraction {
+    shift_speed(v, decimal("0.03"), 2)
+}
+
+/// 004's equations 2.7, 2-6 and 2-5: the downshift speed from gear 2, from gear 3 and from a higher one, to the one below.
+pub fn downshift(v: &Vehicle, gear: usize, e: Fraction) -> Fraction {
+    match gear {
+        2 => to_first(v),
+        3 => shift_speed(v, share(e, "0.1"), 1),
+        _ => shift_speed(v, share(e, "0"), gear - 2),
+    }
+}
+
+/// 004's equations 2-7a, 2-8 and 2-9: the upshift speed "during cruise phases" from gear 1, from gear 2 and from a higher one, to the next. Each is the
+/// downshift speed back again. 2-9 is printed for "i = 3 to ng", of which ng has no next gear.
+pub fn cruise_upshift(v: &Vehicle, gear: usize, e: Fraction) -> Fraction {
+    match gear {
+        1 => shift_speed(v, decimal("0.03"), 2),
+        2 => shift_speed(v, share(e, "0.1"), 1),
+        _ => shift_speed(v, share(e, "0"), gear - 1),
+    }
 }
