@@ -110,30 +110,49 @@ pub fn shift_speeds(v: &Vehicle) -> Result<ShiftSpeeds, Refusal> {
 }
 
 impl Speeds {
+    /// Whether the speed is above shift speed `i`; nothing where it is too close to call.
+    fn is_above(&self, i: usize, speed: u32) -> Option<bool> {
+        let engine = 10 * i128::from(speed) * self.ndv[i] * ONE;
+        let (below, above) = (engine < self.lower[i], engine > self.upper[i]);
+        (below || above).then_some(above)
+    }
+
     /// How many of the first `few` shift speeds the speed is above; nothing where one of them is too close to call.
     fn above(&self, few: usize, speed: u32) -> Option<u8> {
         let mut above = 0;
         for i in 0..few {
-            let engine = 10 * i128::from(speed) * self.ndv[i] * ONE;
-            if engine > self.upper[i] {
-                above += 1;
-            } else if engine >= self.lower[i] {
-                return None;
-            }
+            above += u8::from(self.is_above(i, speed)?);
         }
         Some(above)
     }
+}
 
-    /// The gear before corrections of a second outside stop. Downshift i to i-1 is the upshift i-2 to i-1, so the ng-2 downshift speeds are the
-    /// first ng-2 upshift speeds.
-    fn own(&self, second: &Second) -> Option<u8> {
-        let upshifts = self.ndv.len();
-        match second.phase {
-            Phase::Stop => Some(0),
-            Phase::Acceleration => Some(1 + self.above(upshifts, second.speed)?),
-            Phase::Cruise | Phase::Deceleration => Some(2 + self.above(upshifts - 1, second.speed)?),
+/// The gear before corrections of a second outside stop; rule set 2 has another in cruise and deceleration alone. Downshift i to i-1 is the upshift i-2 to
+/// i-1, so the ng-2 downshift speeds are the first ng-2 upshift speeds.
+fn own(v: &Vehicle, speeds: &Speeds, second: &Second) -> Option<u8> {
+    let upshifts = speeds.ndv.len();
+    match second.phase {
+        Phase::Stop => Some(0),
+        Phase::Acceleration => Some(1 + speeds.above(upshifts, second.speed)?),
+        Phase::Cruise | Phase::Deceleration if v.rule_set == 2 => own_by_004(v, speeds, second.speed),
+        Phase::Cruise | Phase::Deceleration => Some(2 + speeds.above(upshifts - 1, second.speed)?),
+    }
+}
+
+/// 004, 4.5.5.2.1.3, "Gear choice for deceleration or cruise phases: gear 1, if v < v2->1; gear 2, if v < v3->2; gear 3, if v3->2 <= v < v4->3", and so on to
+/// the last gear. v2->1 (4.5.5.2.1.2, equation 2.7) is "[0.03 (s - n) + n] / ndv2": with "no exponential in it ... it is compared exactly: gear 1 strictly
+/// below, and never too close"; it may lie above v3->2, and "then gear 1 still goes first, and a second too close to any of the other speeds is still
+/// refused" (02, M-101). The upshifts of cruise (2-7a, 2-8 and 2-9) are these same speeds again ([`crate::exact::cruise_upshift`]; docs/DECISIONS.md).
+fn own_by_004(v: &Vehicle, speeds: &Speeds, speed: u32) -> Option<u8> {
+    let mut gear = 2;
+    for higher in 3..=v.ng as u8 {
+        let downshift = usize::from(higher) - 3;
+        if speeds.is_above(downshift, speed)? {
+            gear = higher;
         }
     }
+    let below_2_to_1 = speed * v.ndv[1] < three_per_cent(v);
+    Some(if below_2_to_1 { 1 } else { gear })
 }
 
 /// "The last five seconds of a run of stop seconds are gear 1, earlier ones gear 0; a run under six is all gear 1."
@@ -266,8 +285,10 @@ pub fn write_gears(file: &[u8], vehicle: &Vehicle, buffer: &mut [u8], start: usi
     let room = buffer.len().checked_sub(start);
     check(room.is_some_and(|room| room >= 2 * seconds.len()), nowhere(8))?;
     let speeds = speeds(vehicle);
-    let mut row =
-        (1..).zip(&seconds).map(|(place, second)| speeds.own(second).ok_or(at(9, place))).collect::<Result<Vec<u8>, Refusal>>()?;
+    let mut row = (1..)
+        .zip(&seconds)
+        .map(|(place, second)| own(vehicle, &speeds, second).ok_or(at(9, place)))
+        .collect::<Result<Vec<u8>, Refusal>>()?;
     stop_gears(&seconds, &mut row);
     for correction in [correction_1, correction_2, correction_3, correction_4, correction_5, correction_6] {
         correction(&seconds, &mut row);
@@ -280,9 +301,12 @@ pub fn write_gears(file: &[u8], vehicle: &Vehicle, buffer: &mut [u8], start: usi
 
 #[cfg(test)]
 mod known_rows {
-    //! 01's rows of correction 6, the clutch, and tables A13-2 and A13-3 of document 001 (24.9 and 34.9 per cent: docs/DECISIONS.md).
+    //! 01's rows of correction 6, the clutch, and tables A13-2 and A13-3 of document 001 (24.9 and 34.9 per cent: docs/DECISIONS.md), whose figures are those
+    //! of 004's tables Ap8-3 and Ap8-4; and the gears of cruise by 004's equations.
 
     use super::*;
+    use crate::exact::{cruise_upshift, downshift};
+    use crate::fraction::Fraction;
 
     /// Table A13-1, and table Ap8-2 of 004.
     const MACHINE: Vehicle =
@@ -328,6 +352,63 @@ mod known_rows {
             };
             assert_eq!([engine(0, 0), engine(1, 1)], [(3804, 249), (4869, 349)]);
             assert_eq!([engine(0, 2), engine(1, 3), engine(2, 4), engine(3, 5)], [(2167, 96), (3370, 208), (3762, 245), (4005, 268)]);
+        }
+    }
+
+    /// The gear before corrections of a second under rule set 2.
+    fn by_set_2(v: &Vehicle, phase: Phase, speed: u32) -> Option<u8> {
+        own(&Vehicle { rule_set: 2, ..*v }, &speeds(v), &second(phase, speed))
+    }
+
+    /// Table Ap8-4: 28.5, 51.3, 63.9, 74.1 and 82.7 km/h upwards as by rule set 1, and downwards 15.5, 28.5, 51.3, 63.9 and 74.1.
+    #[test]
+    fn appendix_8() {
+        let printed = shift_speeds(&Vehicle { rule_set: 2, ..MACHINE }).unwrap();
+        let to_first = printed.to_first.unwrap();
+        assert_eq!((to_first.lower, to_first.upper), (15_483, 15_484));
+        assert!(printed.upshifts.iter().map(|speed| in_tenths(speed.lower, 1000)).eq([285, 513, 639, 741, 827]));
+        for phase in [Phase::Cruise, Phase::Deceleration] {
+            let gears = |speeds: [u32; 10]| speeds.map(|speed| by_set_2(&MACHINE, phase, speed).unwrap());
+            assert_eq!(gears([154, 155, 284, 285, 513, 514, 639, 640, 741, 742]), [1, 2, 2, 3, 3, 4, 4, 5, 5, 6]);
+        }
+        assert_eq!([154, 155, 284, 285].map(|speed| by_set_2(&MACHINE, Phase::Acceleration, speed).unwrap()), [1, 1, 1, 2]);
+    }
+
+    /// x is 1.5 here: 3 to 2 is 13.12 km/h and 2 to 1 is 14.78.
+    const STRONG: Vehicle =
+        Vehicle { p: 1500, m: 115, s: 12_000, n: 1000, ng: 5, ndv: [10_000, 9000, 8000, 7000, 6000, 0, 0, 0], rule_set: 2 };
+
+    #[test]
+    fn gear_1_goes_first() {
+        for phase in [Phase::Cruise, Phase::Deceleration] {
+            assert_eq!([131, 132, 147, 148].map(|speed| by_set_2(&STRONG, phase, speed)), [1, 1, 1, 3].map(Some));
+            let by_set_1 = |speed| own(&Vehicle { rule_set: 1, ..STRONG }, &speeds(&STRONG), &second(phase, speed));
+            assert_eq!([131, 132, 147, 148].map(by_set_1), [2, 3, 3, 3].map(Some));
+        }
+    }
+
+    /// The first gear whose speed to the next gear the second is below, or the last gear.
+    fn gear_below(to_next: &[Fraction], speed: u32) -> u8 {
+        let at_or_above = |to_next: &&Fraction| to_next.between(0, 100 * i128::from(speed));
+        1 + to_next.iter().take_while(at_or_above).count() as u8
+    }
+
+    /// Equations 2-7a, 2-8 and 2-9 shift a cruise second up where 2.7, 2-6 and 2-5 shift it down, and both give the gear that is worked out in whole numbers,
+    /// with either end of e to the power -x.
+    #[test]
+    fn cruise_upshifts_change_no_gear() {
+        let tall = Vehicle { ng: 8, ndv: [40_000, 9000, 8999, 5000, 2500, 2000, 1001, 1000], ..STRONG };
+        let equal = Vehicle { p: 1, m: 1000, s: 11_000, n: 1000, ng: 3, ndv: [13_001, 10_000, 9999, 0, 0, 0, 0, 0], rule_set: 2 };
+        for v in [MACHINE, STRONG, tall, equal, Vehicle { p: 828, m: 30, ..tall }] {
+            let ends = exponential(v.p, v.m);
+            for e in [ends.0, ends.1].map(|end| Fraction::new(end, ONE)) {
+                let up: Vec<Fraction> = (1..v.ng as usize).map(|gear| cruise_upshift(&v, gear, e)).collect();
+                let down: Vec<Fraction> = (2..=v.ng as usize).map(|gear| downshift(&v, gear, e)).collect();
+                for speed in 0..=2000 {
+                    let gear = by_set_2(&v, Phase::Cruise, speed).unwrap();
+                    assert_eq!((gear_below(&up, speed), gear_below(&down, speed)), (gear, gear), "{v:?}, {speed}");
+                }
+            }
         }
     }
 
