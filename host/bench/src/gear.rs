@@ -55,6 +55,7 @@ fn judge_vehicle(v: &Vehicle) -> Result<(), Refusal> {
     for (gear, each) in ndv.iter().enumerate() {
         check((1000..=100_000).contains(each), at(5, gear as u32 + 6))?;
     }
+    check(v.rule_set == 1 || v.rule_set == 2, at(5, 14))?;
     for (gear, pair) in ndv.windows(2).enumerate() {
         check(pair[1] < pair[0], at(6, gear as u32 + 2))?;
     }
@@ -81,10 +82,11 @@ fn exponential(v: &Vehicle) -> (i64, i64) {
     (lower, upper + (high * over + divisor - 1) / divisor)
 }
 
-/// What a speed times a ratio is held against, for the first upshift and for the others.
+/// What a speed times a ratio is held against, for the first upshift, for the others, and for the downshift 2 to 1, which is 0 under rule set 1.
 struct Shift<'a> {
     first: (i64, i64),
     higher: (i64, i64),
+    to_first: u32,
     ndv: &'a [u32],
 }
 
@@ -96,6 +98,7 @@ impl Shift<'_> {
         Shift {
             first: (side(ends.0, 1000 << 32), side(ends.1, 1000 << 32)),
             higher: (side(ends.0, 0), side(ends.1, 0)),
+            to_first: if v.rule_set == 2 { three_per_cent(v) } else { 0 },
             ndv: &v.ndv[..v.gears as usize - 1],
         }
     }
@@ -117,7 +120,10 @@ impl Shift<'_> {
         match phase(second) {
             STOP => Some(0),
             ACCELERATION => Some(1 + self.above(self.ndv.len(), speed(second))?),
-            _ => Some(2 + self.above(self.ndv.len() - 1, speed(second))?),
+            _ => {
+                let above = self.above(self.ndv.len() - 1, speed(second))?;
+                Some(if speed(second) * self.ndv[1] < self.to_first { 1 } else { 2 + above })
+            }
         }
     }
 }

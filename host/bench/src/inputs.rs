@@ -6,7 +6,7 @@ use ylhovesko::gear::Vehicle;
 
 /// The machine of Annex 13.
 pub const MACHINE: Vehicle =
-    Vehicle { power: 720, mass: 199, rated: 11_800, idle: 1150, gears: 6, ndv: [13_366, 9491, 7616, 6569, 5885, 5404, 0, 0] };
+    Vehicle { power: 720, mass: 199, rated: 11_800, idle: 1150, gears: 6, ndv: [13_366, 9491, 7616, 6569, 5885, 5404, 0, 0], rule_set: 1 };
 
 /// How many seconds all traces of a kind and length have together.
 const SECONDS: usize = 36_000;
