@@ -6,9 +6,11 @@ use std::time::Instant;
 use bench::inputs::{sheets, traces, MACHINE};
 use compare::bags::{by_plain, plain_sheet, told};
 use compare::gear::plain_vehicle;
+use ylhovesko::gear::Vehicle;
 
 const ROUNDS: usize = 200;
-const LENGTHS: [u16; 5] = [250, 500, 1000, 1800, 2000];
+/// The rule sets, each with the seconds of its traces.
+const ROWS: [(u32, u16); 6] = [(1, 250), (1, 500), (1, 1000), (1, 1800), (1, 2000), (2, 1800)];
 const SHEETS: usize = 1000;
 
 /// Nanoseconds of one run of each program, the least of all rounds. The programs take turns in a round, so that what slows the machine slows all.
@@ -33,10 +35,11 @@ fn print_row(head: &str, each: usize, [core, quick, plain]: [f64; 3]) {
 
 /// Gear rows, and the nanoseconds that a second of the trace takes the core and the quick program.
 fn time_gears() {
-    println!("| trace | seconds | ns a second, core | quick | rows/s, core | quick | plain | core to quick | core to plain |");
-    println!("|---|---|---|---|---|---|---|---|---|");
-    let plain = plain_vehicle(&MACHINE);
-    for count in LENGTHS {
+    println!("| set | trace | seconds | ns a second, core | quick | rows/s, core | quick | plain | core to quick | core to plain |");
+    println!("|---|---|---|---|---|---|---|---|---|---|");
+    for (rule_set, count) in ROWS {
+        let machine = Vehicle { rule_set, ..MACHINE };
+        let plain = plain_vehicle(&machine);
         for (kind, traces) in traces(count) {
             let rows = || vec![vec![0; 2 * usize::from(count)]; traces.len()];
             let [mut by_core, mut by_quick, mut by_plain] = [rows(), rows(), rows()];
@@ -44,13 +47,13 @@ fn time_gears() {
                 traces.iter().zip(rows).for_each(|(trace, row)| write(black_box(trace), row));
             };
             let times = least([
-                &mut || each(&mut by_core, &|trace, row| ylhovesko::gear::gears(trace, MACHINE, row, 0).unwrap()),
-                &mut || each(&mut by_quick, &|trace, row| bench::gear::write_gears(trace, &MACHINE, row, 0).unwrap()),
+                &mut || each(&mut by_core, &|trace, row| ylhovesko::gear::gears(trace, machine, row, 0).unwrap()),
+                &mut || each(&mut by_quick, &|trace, row| bench::gear::write_gears(trace, &machine, row, 0).unwrap()),
                 &mut || each(&mut by_plain, &|trace, row| plain::gear::write_gears(trace, &plain, row, 0).unwrap()),
             ]);
-            assert!(by_core == by_quick && by_core == by_plain, "{kind}, {count} seconds: the rows differ");
+            assert!(by_core == by_quick && by_core == by_plain, "set {rule_set}, {kind}, {count} seconds: the rows differ");
             let a_second = |time: f64| time / (traces.len() * usize::from(count)) as f64;
-            let head = format!(" {kind} | {count} | {:.1} | {:.1} |", a_second(times[0]), a_second(times[1]));
+            let head = format!(" {rule_set} | {kind} | {count} | {:.1} | {:.1} |", a_second(times[0]), a_second(times[1]));
             print_row(&head, traces.len(), times);
         }
     }
