@@ -18,7 +18,7 @@ pub struct Case {
     pub start: usize,
 }
 
-/// The case as a line of vectors/gear.txt has it, up to its answer.
+/// The case as a line of vectors/M-101-gear.txt has it, up to its answer.
 impl fmt::Display for Case {
     fn fmt(&self, f: &mut fmt::Formatter) -> fmt::Result {
         write!(f, "{} {} {} {}", hex(&self.trace), vehicle_text(&self.vehicle), self.buffer.len(), self.start)
@@ -28,31 +28,41 @@ impl fmt::Display for Case {
 /// The vehicle as a line of the stored cases has it.
 pub fn vehicle_text(v: &Vehicle) -> String {
     let ratios: String = v.ndv.iter().map(|each| format!(" {each}")).collect();
-    format!("{} {} {} {} {}{ratios}", v.power, v.mass, v.rated, v.idle, v.gears)
+    format!("{} {} {} {} {}{ratios} {}", v.power, v.mass, v.rated, v.idle, v.gears, v.rule_set)
 }
 
 /// The vehicle of the numbers of [`vehicle_text`].
-pub fn vehicle_of([power, mass, rated, idle, gears, ndv @ ..]: [u32; 13]) -> Vehicle {
-    Vehicle { power, mass, rated, idle, gears, ndv }
+pub fn vehicle_of([power, mass, rated, idle, gears, ndv @ .., rule_set]: [u32; 14]) -> Vehicle {
+    Vehicle { power, mass, rated, idle, gears, ndv, rule_set }
 }
 
 /// What an implementation says of a case, and the buffer after it.
 pub type Answer = (Told, Vec<u8>);
 
-/// The case and the answer of a line of vectors/gear.txt, or of a file of its form; the line's number is the seed of the buffer's noise.
+/// The words of a line that has a rule set. Those from before there were two, as vectors/gear.txt has them, name none and are of set 1.
+fn words_with_rule_set(text: &str) -> Vec<&str> {
+    let mut words: Vec<&str> = text.split(' ').collect();
+    if words.len() == 19 {
+        words.insert(14, "1");
+    }
+    words
+}
+
+/// The case and the answer of a line of vectors/M-101-gear.txt or vectors/gear.txt, or of a file of their forms; the line's number is the seed of the buffer's
+/// noise.
 pub fn read(line: u64, text: &str) -> (Case, Answer) {
-    let words: Vec<&str> = text.split(' ').collect();
-    assert_eq!(words.len(), 19, "line {line}");
-    let n: Vec<usize> = words[1..18].iter().map(|word| word.parse().unwrap()).collect();
+    let words = words_with_rule_set(text);
+    assert_eq!(words.len(), 20, "line {line}");
+    let n: Vec<usize> = words[1..19].iter().map(|word| word.parse().unwrap()).collect();
     let vehicle = vehicle_of(std::array::from_fn(|at| n[at] as u32));
-    let case = Case { trace: unhex(words[0]), vehicle, buffer: Random::new(line).bytes(n[13]), start: n[14] };
-    let row = unhex(words[18]);
+    let case = Case { trace: unhex(words[0]), vehicle, buffer: Random::new(line).bytes(n[14]), start: n[15] };
+    let row = unhex(words[19]);
     let mut written = case.buffer.clone();
-    if n[15] == 0 {
+    if n[16] == 0 {
         written[case.start..case.start + row.len()].copy_from_slice(&row);
         assert_eq!(row.len(), (case.trace.len() - 8) / 2, "line {line}");
     }
-    (case, ([n[15] as u32, n[16] as u32, 0, 0], written))
+    (case, ([n[16] as u32, n[17] as u32, 0, 0], written))
 }
 
 /// The answer as a line of vectors/gear.txt has it after the case.
@@ -61,11 +71,12 @@ pub fn answer_text(case: &Case, (told, written): &Answer) -> String {
     format!("{} {} {}", told[0], told[1], hex(row))
 }
 
-/// A file of stored cases with what the second implementation says of each.
+/// A file of stored cases, each as it stands there, with what the second implementation says of it.
 pub fn answered_anew(text: &str) -> String {
-    let anew = |(line, text)| {
+    let anew = |(line, text): (u64, &str)| {
         let (case, _) = read(line, text);
-        format!("{case} {}\n", answer_text(&case, &by_plain(&case)))
+        let [_, _, _, as_stored] = text.rsplitn(4, ' ').collect::<Vec<_>>()[..] else { panic!("no answer: {text}") };
+        format!("{as_stored} {}\n", answer_text(&case, &by_plain(&case)))
     };
     let head = text.lines().take_while(|line| line.starts_with('#')).map(|line| format!("{line}\n"));
     head.chain(stored(text).map(anew)).collect()
@@ -87,7 +98,7 @@ pub fn by_plain(case: &Case) -> Answer {
 
 /// The vehicle as the second implementation takes it.
 pub fn plain_vehicle(v: &Vehicle) -> plain::gear::Vehicle {
-    plain::gear::Vehicle { p: v.power, m: v.mass, s: v.rated, n: v.idle, ng: v.gears, ndv: v.ndv }
+    plain::gear::Vehicle { p: v.power, m: v.mass, s: v.rated, n: v.idle, ng: v.gears, ndv: v.ndv, rule_set: v.rule_set }
 }
 
 /// The largest power that a mass takes: 19 P <= 150 (m + 75).
@@ -113,7 +124,7 @@ fn falling(random: &mut Random) -> [u32; 8] {
     ndv
 }
 
-/// A sheet that is accepted, with many of its numbers at or next to a limit.
+/// A sheet of rule set 1 that is accepted, with many of its numbers at or next to a limit.
 fn vehicle(random: &mut Random) -> Vehicle {
     let mass = random.edged(30, 1000);
     let power = random.edged(1, most_power(mass));

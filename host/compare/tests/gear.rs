@@ -10,6 +10,7 @@ const GEAR: &str = include_str!("../../vectors/gear.txt");
 const BY_01: &str = include_str!("../../vectors/gear_by_01.txt");
 const M_100: &str = include_str!("../../vectors/M-100-gear.txt");
 
+const M_101: &str = include_str!("../../vectors/M-101-gear.txt");
 /// Every line of a file of stored cases: the number, the place and every byte of the buffer.
 fn both_answer(text: &str, lines: usize) {
     for (line, text) in stored(text) {
@@ -25,13 +26,18 @@ fn stored_cases() {
     both_answer(GEAR, 500);
 }
 
-/// The cases that came with the request.
+/// The cases that came with the requests.
 #[test]
 fn stored_cases_of_m_100() {
     both_answer(M_100, 300);
 }
 
 /// How many clutch bytes of the row went from in to out. No other byte may have changed.
+#[test]
+fn stored_cases_of_m_101() {
+    both_answer(M_101, 300);
+}
+
 fn taken_out(case: &Case, by_01: &Answer, now: &Answer) -> usize {
     let row = if by_01.0[0] == 0 { (case.trace.len() - 8) / 2 } else { 0 };
     let is_clutch = |at: usize| (case.start..case.start + row).contains(&at) && (at - case.start) % 2 == 1;
