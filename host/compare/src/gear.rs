@@ -130,31 +130,36 @@ fn vehicle(random: &mut Random) -> Vehicle {
     let power = random.edged(1, most_power(mass));
     let rated = random.edged(1000, 20_000);
     let idle = random.edged(300, (rated - 500).min(3000));
-    Vehicle { power, mass, rated, idle, gears: random.from(3, 8), ndv: falling(random) }
+    Vehicle { power, mass, rated, idle, gears: random.from(3, 8), ndv: falling(random), rule_set: 1 }
 }
 
-/// A sheet on which one speed, the second number, is too close to the upshift speed of one of its gears, or only just not. It is searched for:
-/// an engine speed must come near a whole number that is a speed times a ratio. Near is by 64 units of the exponential more than its ends say, so that
-/// an end that is wrong by less is seen whichever implementation has it.
+/// A ratio of a gear with which some speed, the second number, is too close to the gear's upshift speed, or only just not, where there is one: the engine
+/// speed must come near a whole number that is a speed times a ratio. Near is by 64 units of the exponential more than its ends say, so that an end that is
+/// wrong by less is seen whichever implementation has it.
+fn close_ratio(random: &mut Random, v: &Vehicle, gear: usize) -> Option<(u32, u32)> {
+    let shift = speeds(&plain_vehicle(v));
+    let near = 64 * 5753 * i128::from(v.rated - v.idle);
+    let unit = 10_i128 << 32;
+    let product = (shift.upper[gear] + near) / unit;
+    if product * unit < shift.lower[gear] - near {
+        return None;
+    }
+    let fits = |speed: &i128| product % speed == 0 && (1000..=100_000).contains(&(product / speed));
+    let speeds: Vec<i128> = (1..=2000).filter(fits).collect();
+    if speeds.is_empty() {
+        return None;
+    }
+    let speed = random.one_of(&speeds);
+    Some(((product / speed) as u32, speed as u32))
+}
+
+/// A sheet on which one speed, the second number, is too close to the upshift speed of one of its gears, or only just not. It is searched for.
 fn close_vehicle(random: &mut Random) -> (Vehicle, u32) {
     loop {
         let mut found = vehicle(random);
         found.rated = random.from(8000, 20_000);
-        let shift = speeds(&plain_vehicle(&found));
         let gear = random.below(u64::from(found.gears) - 1) as usize;
-        let near = 64 * 5753 * i128::from(found.rated - found.idle);
-        let unit = 10_i128 << 32;
-        let product = (shift.upper[gear] + near) / unit;
-        if product * unit < shift.lower[gear] - near {
-            continue;
-        }
-        let fits = |speed: &i128| product % speed == 0 && (1000..=100_000).contains(&(product / speed));
-        let speeds: Vec<i128> = (1..=2000).filter(fits).collect();
-        if speeds.is_empty() {
-            continue;
-        }
-        let speed = random.one_of(&speeds);
-        let ndv = (product / speed) as u32;
+        let Some((ndv, speed)) = close_ratio(random, &found, gear) else { continue };
         let (before, after) = (gear as u32, found.gears - 1 - gear as u32);
         if ndv + before > 100_000 || ndv < 1000 + after {
             continue;
@@ -162,7 +167,23 @@ fn close_vehicle(random: &mut Random) -> (Vehicle, u32) {
         for i in 0..found.gears {
             found.ndv[i as usize] = ndv + before - i;
         }
-        return (found, speed as u32);
+        return (found, speed);
+    }
+}
+
+/// A sheet on which the downshift 2 to 1 lies above 3 to 2, with a speed that is below the former and too close to the latter, or only just not.
+fn first_gear_vehicle(random: &mut Random) -> (Vehicle, u32) {
+    loop {
+        let mut found = vehicle(random);
+        found.rated = random.from(8000, 20_000);
+        let Some((first, speed)) = close_ratio(random, &found, 0) else { continue };
+        // the greatest ratio of gear 2 with which the speed is below 2 to 1
+        let most = ((three_per_cent(&plain_vehicle(&found)) - 1) / speed).min(first - 1);
+        if most >= 1006 {
+            let second = random.edged(1006, most);
+            found.ndv = [0, 1, 2, 3, 4, 5, 6, 7].map(|gear| if gear == 0 { first } else { second - (gear - 1) });
+            return (found, speed);
+        }
     }
 }
 
@@ -316,25 +337,8 @@ fn room(random: &mut Random, seconds: usize) -> (usize, usize) {
     }
 }
 
-/// The random case of a seed.
-pub fn case(seed: u64) -> Case {
-    let mut random = Random::new(seed);
-    let random = &mut random;
-    let (mut vehicle, close) = match random.below(20) {
-        0 | 1 => {
-            let (vehicle, speed) = close_vehicle(random);
-            (vehicle, Some(speed))
-        }
-        2..=4 => (three_per_cent_vehicle(random), None),
-        _ => (vehicle(random), None),
-    };
-    let mut preferred = shift_tenths(&speeds(&plain_vehicle(&vehicle)));
-    if random.once_in(4) {
-        preferred.truncate(4);
-    }
-    if random.once_in(2) {
-        preferred.extend(three_per_cent_tenths(&vehicle));
-    }
+/// A case of a vehicle, with seconds that prefer some speeds and one that has the close speed, if there is one; now and then with damage.
+fn case_of(random: &mut Random, mut vehicle: Vehicle, close: Option<u32>, preferred: Vec<u32>) -> Case {
     let style = Style { preferred, steady: random.below(9), marks: random.one_of(&[0, 0, 2, 8]) };
     let count = count(random);
     let mut seconds = seconds(random, &style, count);
@@ -351,6 +355,54 @@ pub fn case(seed: u64) -> Case {
     }
     let (start, length) = room(random, count);
     Case { trace, vehicle, buffer: random.bytes(length), start }
+}
+
+/// The rule set of a seed: half of them have 2, and one in 32 has one that is refused. It has numbers of its own, so that the rest of a case is what it was
+/// when there was one set.
+fn rule_set(seed: u64) -> u32 {
+    let mut random = Random::new(!seed);
+    if random.once_in(32) {
+        return random.one_of(&[0, 3, 4, 257, 258, 65_538, u32::MAX]);
+    }
+    random.from(1, 2)
+}
+
+/// The random case of a seed.
+pub fn case(seed: u64) -> Case {
+    let mut random = Random::new(seed);
+    let random = &mut random;
+    let (vehicle, close) = match random.below(20) {
+        0 | 1 => {
+            let (vehicle, speed) = close_vehicle(random);
+            (vehicle, Some(speed))
+        }
+        2..=4 => (three_per_cent_vehicle(random), None),
+        _ => (vehicle(random), None),
+    };
+    let mut preferred = shift_tenths(&speeds(&plain_vehicle(&vehicle)));
+    if random.once_in(4) {
+        preferred.truncate(4);
+    }
+    if random.once_in(2) {
+        preferred.extend(three_per_cent_tenths(&vehicle));
+    }
+    let mut case = case_of(random, vehicle, close, preferred);
+    case.vehicle.rule_set = rule_set(seed);
+    case
+}
+
+/// The random case of a seed on a machine on which 2 to 1 lies above 3 to 2, with speeds beside both; most have rule set 2.
+pub fn first_gear_case(seed: u64) -> Case {
+    let mut random = Random::new(seed);
+    let random = &mut random;
+    let (vehicle, speed) = first_gear_vehicle(random);
+    let first_at = three_per_cent(&plain_vehicle(&vehicle)).div_ceil(vehicle.ndv[1]);
+    let to_second = shift_tenths(&speeds(&plain_vehicle(&vehicle))).into_iter().take(4);
+    let preferred = to_second.chain(first_at - 1..=first_at + 1).filter(|&tenth| tenth <= 2000).collect();
+    let close = random.once_in(2).then_some(speed);
+    let mut case = case_of(random, vehicle, close, preferred);
+    case.vehicle.rule_set = random.one_of(&[1, 2, 2, 2]);
+    case
 }
 
 /// The random pair of traces of a seed, often of the same count.
@@ -374,9 +426,13 @@ pub fn pair(seed: u64) -> Pair {
 pub fn any_vehicle(seed: u64) -> Vehicle {
     let mut random = Random::new(seed);
     let random = &mut random;
-    let mut any = if random.once_in(10) { close_vehicle(random).0 } else { vehicle(random) };
+    let mut any = match random.below(10) {
+        0 => close_vehicle(random).0,
+        1 => three_per_cent_vehicle(random),
+        _ => vehicle(random),
+    };
     if random.once_in(4) {
         damage_vehicle(random, &mut any);
     }
-    any
+    Vehicle { rule_set: rule_set(seed), ..any }
 }

@@ -2,15 +2,16 @@
 
 use std::collections::BTreeMap;
 
-use compare::gear::{by_core, by_plain, case, pair, plain_vehicle, read, Answer, Case};
+use compare::gear::{by_core, by_plain, case, first_gear_case, pair, plain_vehicle, read, Answer, Case};
 use compare::{cases, pairs, stored};
-use plain::gear::{exponential, three_per_cent};
+use plain::gear::{exponential, speeds, three_per_cent};
+use ylhovesko::gear::Vehicle;
 
 const GEAR: &str = include_str!("../../vectors/gear.txt");
 const BY_01: &str = include_str!("../../vectors/gear_by_01.txt");
 const M_100: &str = include_str!("../../vectors/M-100-gear.txt");
-
 const M_101: &str = include_str!("../../vectors/M-101-gear.txt");
+
 /// Every line of a file of stored cases: the number, the place and every byte of the buffer.
 fn both_answer(text: &str, lines: usize) {
     for (line, text) in stored(text) {
@@ -32,12 +33,12 @@ fn stored_cases_of_m_100() {
     both_answer(M_100, 300);
 }
 
-/// How many clutch bytes of the row went from in to out. No other byte may have changed.
 #[test]
 fn stored_cases_of_m_101() {
     both_answer(M_101, 300);
 }
 
+/// How many clutch bytes of the row went from in to out. No other byte may have changed.
 fn taken_out(case: &Case, by_01: &Answer, now: &Answer) -> usize {
     let row = if by_01.0[0] == 0 { (case.trace.len() - 8) / 2 } else { 0 };
     let is_clutch = |at: usize| (case.start..case.start + row).contains(&at) && (at - case.start) % 2 == 1;
@@ -68,28 +69,97 @@ fn above_three_per_cent(case: &Case, (told, written): &Answer) -> Vec<i32> {
     let line = three_per_cent(&plain_vehicle(&case.vehicle)) as i32;
     let seconds = case.trace[8..].chunks(4).zip(written[case.start..].chunks(2));
     let moving = seconds.filter(|(second, _)| second[2] & 3 != 0);
-    let speeds = moving.map(|(second, row)| (i32::from(u16::from_le_bytes([second[0], second[1]])), usize::from(row[0])));
+    let speeds = moving.map(|(second, row)| (speed(second), usize::from(row[0])));
     let engine = speeds.filter(|&(speed, _)| speed >= 100).map(|(speed, gear)| speed * case.vehicle.ndv[gear - 1] as i32);
     engine.map(|engine| (engine - line).clamp(-2, 2)).collect()
 }
 
-/// Random cases, YLHOVESKO_CASES of them. A difference is shown as a line of vectors/gear.txt, with the case's seed.
+fn speed(second: &[u8]) -> i32 {
+    i32::from(u16::from_le_bytes([second[0], second[1]]))
+}
+
+/// Where the speed of a second stands to the downshift 2 to 1.
+fn to_2_to_1(v: &Vehicle, second: &[u8]) -> &'static str {
+    let tenth = v.ndv[1] as i32;
+    let away = speed(second) * tenth - three_per_cent(&plain_vehicle(v)) as i32;
+    match away {
+        0 => "at",
+        1.. if away <= tenth => "up to a tenth above",
+        1.. => "above",
+        _ if away >= -tenth => "up to a tenth below",
+        _ => "below",
+    }
+}
+
+/// Whether the speed of a second is above 3 to 2, and not too close to it.
+fn above_3_to_2(v: &Vehicle, second: &[u8]) -> bool {
+    let shift = speeds(&plain_vehicle(v));
+    (10 * i128::from(speed(second)) * shift.ndv[0]) << 32 > shift.upper[0]
+}
+
+/// The seconds that 2 to 1 is for, cruise and deceleration under rule set 2, of an accepted case; of a case that is refused for such a second, that one.
+fn held_against_2_to_1<'a>(case: &'a Case, (told, _): &Answer) -> Vec<&'a [u8]> {
+    let (first, count) = match told[0] {
+        0 => (0, usize::MAX),
+        9 => (told[1] as usize - 1, 1),
+        _ => return Vec::new(),
+    };
+    let seconds = case.trace[8..].chunks(4).skip(first).take(count);
+    seconds.filter(|second| case.vehicle.rule_set == 2 && second[2] & 3 >= 2).collect()
+}
+
+/// What both say of a random case. A difference is shown as a line of vectors/M-101-gear.txt, with the case's seed.
+fn same_answer(seed: u64, case: &Case) -> Answer {
+    let core = by_core(case);
+    assert!(core == by_plain(case), "seed {seed}: {case}\ncore  {core:?}\nplain {:?}", by_plain(case));
+    core
+}
+
+/// Random cases, YLHOVESKO_CASES of them.
 #[test]
 fn random_cases() {
-    let (mut seen, mut above) = (BTreeMap::new(), BTreeMap::new());
+    let (mut seen, mut above, mut beside) = (BTreeMap::new(), BTreeMap::new(), BTreeMap::new());
     for seed in 0..cases("YLHOVESKO_CASES", 100_000) {
         let case = case(seed);
-        let core = by_core(&case);
-        assert!(core == by_plain(&case), "seed {seed}: {case}\ncore  {core:?}\nplain {:?}", by_plain(&case));
-        *seen.entry(core.0[0]).or_insert(0) += 1;
-        above_three_per_cent(&case, &core).into_iter().for_each(|step| *above.entry(step).or_insert(0) += 1);
+        let answer = same_answer(seed, &case);
+        *seen.entry(answer.0[0]).or_insert(0) += 1;
+        above_three_per_cent(&case, &answer).into_iter().for_each(|step| *above.entry(step).or_insert(0) += 1);
+        let held = held_against_2_to_1(&case, &answer).into_iter().filter(|_| answer.0[0] == 0);
+        held.for_each(|second| *beside.entry(to_2_to_1(&case.vehicle, second)).or_insert(0) += 1);
     }
-    println!("cases by refusal number: {seen:?}; seconds above n + 0.03 (s - n), in 0.001 per minute: {above:?}");
+    println!("cases by refusal number: {seen:?}; seconds above n + 0.03 (s - n), in 0.001 per minute: {above:?}; to 2 to 1: {beside:?}");
     if seen.values().sum::<u64>() >= 100_000 {
         assert!(seen[&0] >= 40_000, "too few are accepted: {seen:?}");
         assert!((1..=9).all(|number| seen.get(&number).is_some_and(|&count| count >= 100)), "a refusal is hardly met: {seen:?}");
         let enough = [(-2, 100_000), (-1, 200), (0, 1000), (1, 200), (2, 100_000)];
         assert!(enough.iter().all(|(step, least)| above.get(step).is_some_and(|count| count >= least)), "a side is hardly met: {above:?}");
+        let enough = [("up to a tenth below", 10_000), ("at", 500), ("up to a tenth above", 10_000)];
+        assert!(
+            enough.iter().all(|(side, least)| beside.get(side).is_some_and(|count| count >= least)),
+            "a side is hardly met: {beside:?}"
+        );
+    }
+}
+
+/// Random cases on machines on which 2 to 1 lies above 3 to 2, a fifth of YLHOVESKO_CASES. Some seconds are above the latter and have gear 1 all the same; some
+/// are too close to it, and refuse their trace although they are below 2 to 1.
+#[test]
+fn random_cases_of_first_gear() {
+    let mut seen = BTreeMap::new();
+    let some = cases("YLHOVESKO_CASES", 100_000) / 5;
+    for seed in 0..some {
+        let case = first_gear_case(seed);
+        let answer = same_answer(seed, &case);
+        for second in held_against_2_to_1(&case, &answer) {
+            let place = (to_2_to_1(&case.vehicle, second), above_3_to_2(&case.vehicle, second), answer.0[0]);
+            *seen.entry(place).or_insert(0) += 1;
+        }
+    }
+    println!("seconds by their place to 2 to 1, whether they are above 3 to 2, and refusal number: {seen:?}");
+    if some >= 20_000 {
+        let below = ["up to a tenth below", "below"].into_iter();
+        let mut enough = below.flat_map(|side| [((side, true, 0), 1000), ((side, false, 9), 20)]);
+        assert!(enough.all(|(place, least)| seen.get(&place).is_some_and(|&count| count >= least)), "a place is hardly met: {seen:?}");
     }
 }
 
