@@ -163,6 +163,43 @@ fn random_cases_of_first_gear() {
     }
 }
 
+fn with_set(rule_set: u32, seed: u64) -> Case {
+    let mut case = case(seed);
+    case.vehicle.rule_set = rule_set;
+    case
+}
+
+/// FNV-1a, of 64 bits, over the four numbers and then the buffer of each answer.
+fn digest(answers: impl Iterator<Item = Answer>) -> u64 {
+    let bytes = answers.flat_map(|(told, written)| told.into_iter().flat_map(u32::to_le_bytes).chain(written));
+    bytes.fold(0xcbf2_9ce4_8422_2325, |digest, byte| (digest ^ u64::from(byte)).wrapping_mul(0x0100_0000_01b3))
+}
+
+/// The digest of the answers to the first 20,000 random cases before there were rule sets: worked out once, by the core of commit fb6e039. The second
+/// implementation of that commit has the same.
+const BEFORE_M_101: u64 = 0x98bb_d1f6_045e_b082;
+
+/// Rule set 1 is the rule as it stood: the same cases, with set 1, have the same refusals, gears and clutches.
+#[test]
+fn set_1_answers_as_before() {
+    assert_eq!(digest((0..20_000).map(|seed| by_plain(&with_set(1, seed)))), BEFORE_M_101);
+    assert_eq!(digest((0..20_000).map(|seed| by_core(&with_set(1, seed)))), BEFORE_M_101);
+}
+
+/// What is refused, and where, is the same under both sets; rows differ.
+#[test]
+fn both_sets_refuse_alike() {
+    let mut differ = 0;
+    let some = cases("YLHOVESKO_CASES", 20_000).min(20_000);
+    for seed in 0..some {
+        let [by_1, by_2] = [1, 2].map(|rule_set| by_core(&with_set(rule_set, seed)));
+        assert_eq!(by_1.0, by_2.0, "seed {seed}: {}", with_set(2, seed));
+        differ += u64::from(by_1.1 != by_2.1);
+    }
+    println!("of {some} cases {differ} have another row under the other set");
+    assert!(some < 20_000 || differ >= 2000, "rows hardly differ: {differ}");
+}
+
 /// Random pairs: the refusal, and that the chosen trace is the lent one itself.
 #[test]
 fn random_pairs() {
