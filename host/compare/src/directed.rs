@@ -7,6 +7,7 @@
 pub mod bags;
 pub mod gear;
 pub mod pairs;
+mod rule_sets;
 pub mod speeds;
 
 /// The files in host/vectors, each with its text.

@@ -50,20 +50,20 @@ fn shift_speeds() {
     for (line, text) in stored(SPEEDS) {
         let (vehicle, answer) = speeds::read(text);
         assert_eq!(speeds::by_core(&vehicle), answer, "line {line}");
-        assert!(answer.0[0] != 0 || speeds::hold_exact(&vehicle, &answer.1), "line {line}");
+        assert!(answer.told[0] != 0 || speeds::hold_exact(&vehicle, &answer), "line {line}");
     }
 }
 
 /// The rows of a vehicle with every place that they can name.
 fn vehicle_places() -> Vec<Told> {
-    let ranges = (1..=5 + 8).map(|place| [5, place, 0, 0]);
+    let ranges = (1..=14).map(|place| [5, place, 0, 0]);
     let ratios = (2..=8).map(|gear| [6, gear, 0, 0]);
     ranges.chain(ratios).chain([[7, 0, 0, 0]]).collect()
 }
 
 #[test]
 fn every_place_of_a_vehicle() {
-    let seen: BTreeSet<Told> = stored(SPEEDS).map(|(_, text)| speeds::read(text).1 .0).collect();
+    let seen: BTreeSet<Told> = stored(SPEEDS).map(|(_, text)| speeds::read(text).1.told).collect();
     let table: BTreeSet<Told> = [[0; 4]].into_iter().chain(vehicle_places()).collect();
     assert_eq!(seen, table);
 }

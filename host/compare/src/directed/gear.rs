@@ -2,6 +2,7 @@
 
 use ylhovesko::gear::Vehicle;
 
+use super::rule_sets;
 use crate::gear::{answer_text, by_plain, house_file, Case};
 use crate::random::Random;
 use crate::Told;
@@ -16,17 +17,19 @@ pub struct Directed {
 
 /// Eight gears whose upshift speeds are 14.4, 25.0, 33.8, 42.2, 51.9, 61.4 and 71.1 km/h, so that at 10 g km/h an acceleration second has gear g and
 /// a cruise or deceleration second one more, up to the eighth.
-const EIGHT: Vehicle = Vehicle {
+pub(super) const EIGHT: Vehicle = Vehicle {
     power: 1,
     mass: 1000,
     rated: 11_000,
     idle: 1000,
     gears: 8,
     ndv: [40_000, 27_000, 20_000, 16_000, 13_000, 11_000, 9500, 8000],
+    rule_set: 1,
 };
 
 /// The four bytes of a second in short: the phase (s stop, a acceleration, c cruise, d deceleration); the gear that [`EIGHT`] has there before
-/// corrections, or @ and the speed in 0.1 km/h; = for "no gear-shift", ^ for "no 1. gear".
+/// corrections, or @ and the speed in 0.1 km/h; = for "no gear-shift", ^ for "no 1. gear". 1 in cruise or deceleration is a standstill, which has gear 1 under
+/// rule set 2 alone.
 fn second(short: &str) -> [u8; 4] {
     let phase = "sacd".find(&short[..1]).unwrap() as u8;
     let digits: String = short.chars().filter(char::is_ascii_digit).collect();
@@ -41,12 +44,12 @@ fn second(short: &str) -> [u8; 4] {
     [low, high, phase | mark('=', 4) | mark('^', 8), 0]
 }
 
-fn trace(seconds: &str) -> Vec<u8> {
+pub(super) fn trace(seconds: &str) -> Vec<u8> {
     house_file(&seconds.split(' ').flat_map(second).collect::<Vec<u8>>())
 }
 
 /// As many seconds as asked for: every phase and mark, and speeds from one end to the other.
-fn long(count: u32) -> Vec<u8> {
+pub(super) fn long(count: u32) -> Vec<u8> {
     let second = |k: u32| {
         let [low, high] = (37 * k % 2001).to_le_bytes()[..2] else { unreachable!() };
         [low, high, (k % 16) as u8, 0]
@@ -60,7 +63,7 @@ fn usual() -> Case {
 }
 
 /// A trace and a vehicle with exactly the room they need.
-fn lent(trace: Vec<u8>, vehicle: Vehicle) -> Case {
+pub(super) fn lent(trace: Vec<u8>, vehicle: Vehicle) -> Case {
     let room = trace.len().saturating_sub(8) / 2;
     Case { trace, vehicle, buffer: vec![0; room], start: 0 }
 }
@@ -83,26 +86,26 @@ fn clutch(v: &Vehicle, second: &[u8], gear: u8) -> u8 {
 }
 
 #[derive(Default)]
-struct Cases(Vec<Directed>);
+pub(super) struct Cases(pub(super) Vec<Directed>);
 
 impl Cases {
-    fn refused(&mut self, number: u32, at: u32, words: &str, case: Case) {
+    pub(super) fn refused(&mut self, number: u32, at: u32, words: &str, case: Case) {
         self.0.push(Directed { words: format!("{}: {words}", row(number, at)), case, told: [number, at, 0, 0], row: None });
     }
 
-    fn taken(&mut self, words: &str, case: Case) {
+    pub(super) fn taken(&mut self, words: &str, case: Case) {
         self.0.push(Directed { words: format!("taken: {words}"), case, told: [0; 4], row: None });
     }
 
     /// A case whose gears are worked out by hand. Its clutch follows from them.
-    fn gears(&mut self, words: &str, case: Case, gears: &str) {
+    pub(super) fn gears(&mut self, words: &str, case: Case, gears: &str) {
         let seconds = gears.split(' ').map(|gear| gear.parse().unwrap()).zip(case.trace[8..].chunks(4));
         let row = seconds.flat_map(|(gear, second)| [gear, clutch(&case.vehicle, second, gear)]).collect();
         self.0.push(Directed { words: format!("{words}: {gears}"), case, told: [0; 4], row: Some(row) });
     }
 
     /// Seconds whose clutch is worked out by hand too: each has its gear and then `in` or `out`.
-    fn row_with_clutch(&mut self, words: &str, vehicle: Vehicle, seconds: &str, row: &str) {
+    pub(super) fn row_with_clutch(&mut self, words: &str, vehicle: Vehicle, seconds: &str, row: &str) {
         let bytes = |each: &str| match each.split_once('/').unwrap() {
             (gear, "in") => [gear.parse().unwrap(), 0],
             (gear, "out") => [gear.parse().unwrap(), 1],
@@ -180,7 +183,7 @@ fn seconds(cases: &mut Cases) {
 }
 
 /// The usual case with a vehicle for which every number can go to the ends of its range.
-fn vehicle(change: impl Fn(&mut Vehicle)) -> Case {
+pub(super) fn vehicle(change: impl Fn(&mut Vehicle)) -> Case {
     let mut case = usual();
     case.vehicle = Vehicle { power: 100, mass: 400, rated: 10_000, idle: 400, ..EIGHT };
     change(&mut case.vehicle);
@@ -308,10 +311,10 @@ impl Beside {
             0 => self.ndv + 1000,
             _ => self.ndv - 100 * (gear - 1),
         };
-        Vehicle { power, mass, rated, idle, gears, ndv: [0, 1, 2, 3, 4, 5, 6, 7].map(ndv) }
+        Vehicle { power, mass, rated, idle, gears, ndv: [0, 1, 2, 3, 4, 5, 6, 7].map(ndv), rule_set: 1 }
     }
 
-    fn case(&self, phase: &str, gears: u32) -> Case {
+    pub(super) fn case(&self, phase: &str, gears: u32) -> Case {
         lent(trace(&format!("{phase}@{}", self.speed)), self.vehicle(gears))
     }
 
@@ -325,7 +328,7 @@ impl Beside {
     }
 
     /// Below the shift speed, above it, or too close to call.
-    fn call(&self) -> Option<bool> {
+    pub(super) fn call(&self) -> Option<bool> {
         match self.end {
             "lower" => (self.away < 0).then_some(false),
             _ => (self.away > 0).then_some(true),
@@ -387,7 +390,11 @@ fn phases(cases: &mut Cases) {
 }
 
 /// Four gears in which n + 0.03 (s - n), here 1,300 per minute, is 12.5, 13.0, 20.0 and 25.0 km/h. The upshift speeds are 55.3, 67.5 and 103.9 km/h.
-const TALL: Vehicle = Vehicle { gears: 4, ndv: [10_400, 10_000, 6500, 5200, 0, 0, 0, 0], ..EIGHT };
+pub(super) const TALL: Vehicle = Vehicle { gears: 4, ndv: [10_400, 10_000, 6500, 5200, 0, 0, 0, 0], ..EIGHT };
+
+/// Table A13-1, and table Ap8-2 of 004.
+pub(super) const ANNEX_13: Vehicle =
+    Vehicle { power: 720, mass: 199, rated: 11_800, idle: 1150, gears: 6, ndv: [13_366, 9491, 7616, 6569, 5885, 5404, 0, 0], rule_set: 1 };
 
 /// The clutch by engine speed in each phase, below 10.0 km/h and at a stop.
 fn clutches(cases: &mut Cases) {
@@ -442,9 +449,7 @@ fn clutches_by_vehicle(cases: &mut Cases) {
         let seconds = format!("c@{} c@{tenth} c@{}", tenth - 1, tenth + 1);
         cases.row_with_clutch(words, vehicle, &seconds, "2/out 2/in 2/in");
     }
-    let annex_13 =
-        Vehicle { power: 720, mass: 199, rated: 11_800, idle: 1150, gears: 6, ndv: [13_366, 9491, 7616, 6569, 5885, 5404, 0, 0] };
-    cases.row_with_clutch("table A13-3, 15.5 km/h", annex_13, "c@154 c@155", "2/out 2/in");
+    cases.row_with_clutch("table A13-3, 15.5 km/h", ANNEX_13, "c@154 c@155", "2/out 2/in");
     // 1,292,500 is 110 x 11,750, and 117 x 11,047 + 1, and 203 x 6,367 - 1
     let beside = Vehicle { rated: 10_750, gears: 3, ndv: [11_750, 11_047, 6367, 0, 0, 0, 0, 0], ..EIGHT };
     let words = "at equality, and 0.001 per minute below and above it";
@@ -528,10 +533,10 @@ fn corrections(cases: &mut Cases) {
 }
 
 /// A number and a place, and what puts the fault into a case.
-type Fault = (u32, u32, Box<dyn Fn(&mut Case)>);
+pub(super) type Fault = (u32, u32, Box<dyn Fn(&mut Case)>);
 
 /// Every fault that a case can have, the first in 01's order first.
-fn faults() -> Vec<Fault> {
+pub(super) fn faults() -> Vec<Fault> {
     let mut all: Vec<Fault> = vec![
         (1, 0, Box::new(|case| case.trace[4] = 2)),
         (2, 0, Box::new(|case| case.trace[6..8].copy_from_slice(&[0xd1, 7]))),
@@ -548,6 +553,7 @@ fn faults() -> Vec<Fault> {
     for gear in 1..=8 {
         all.push((5, 5 + gear, Box::new(move |case| case.vehicle.ndv[gear as usize - 1] = 999)));
     }
+    all.push((5, 14, Box::new(|case| case.vehicle.rule_set = 3)));
     for gear in 2..=8 {
         let rise = move |ndv: &mut [u32; 8]| (gear as usize - 1..8).for_each(|each| ndv[each] = ndv[each - 1] + 1);
         all.push((6, gear, Box::new(move |case| rise(&mut case.vehicle.ndv))));
@@ -560,9 +566,14 @@ fn faults() -> Vec<Fault> {
     all
 }
 
+/// What the faults are put into.
+pub(super) fn faultless() -> Case {
+    lent(trace("s a@100 c@200 d@100"), BESIDE[6].vehicle(8))
+}
+
 /// "Lowest number first; within a number the first place": each of the faults with the next, and with all that come after it.
 fn in_order(cases: &mut Cases, faults: &[Fault]) {
-    let base = lent(trace("s a@100 c@200 d@100"), BESIDE[6].vehicle(8));
+    let base = faultless();
     cases.taken("the case that gets the faults below", base.clone());
     for first in 0..faults.len() - 1 {
         let (number, at, _) = faults[first];
@@ -585,7 +596,7 @@ fn order(cases: &mut Cases) {
 /// The cases that the vehicle alone decides: its ranges, its ratios, its power, and the order of its faults.
 pub(super) fn of_vehicle() -> Vec<Directed> {
     let mut cases = Cases::default();
-    [vehicle_ranges, ratios, power_to_mass].iter().for_each(|group| group(&mut cases));
+    [vehicle_ranges, ratios, power_to_mass, rule_sets::ranges].iter().for_each(|group| group(&mut cases));
     let faults: Vec<Fault> = faults().into_iter().filter(|(number, ..)| (5..=7).contains(number)).collect();
     in_order(&mut cases, &faults);
     cases.0
@@ -594,7 +605,7 @@ pub(super) fn of_vehicle() -> Vec<Directed> {
 /// All of them, in the order of the file; each buffer's noise has the number of its line there.
 pub fn cases() -> Vec<Directed> {
     let mut cases = Cases::default();
-    let groups: [fn(&mut Cases); 14] = [
+    let groups: [fn(&mut Cases); 15] = [
         house_files,
         seconds,
         vehicle_ranges,
@@ -609,8 +620,9 @@ pub fn cases() -> Vec<Directed> {
         clutches_by_gear,
         clutches_by_vehicle,
         clutches_after_corrections,
+        rule_sets::ranges,
     ];
-    groups.iter().for_each(|group| group(&mut cases));
+    groups.iter().chain(&rule_sets::GROUPS).for_each(|group| group(&mut cases));
     for (line, directed) in (3..).step_by(2).zip(&mut cases.0) {
         directed.case.buffer = Random::new(line).bytes(directed.case.buffer.len());
     }
@@ -619,7 +631,7 @@ pub fn cases() -> Vec<Directed> {
 
 /// The text of vectors/directed_gear.txt. Stops where the second implementation does not say what is expected.
 pub fn text() -> String {
-    let mut text = super::head(include_str!("../../../vectors/gear.txt"));
+    let mut text = super::head(include_str!("../../../vectors/M-101-gear.txt"));
     for Directed { words, case, told, row } in cases() {
         let answer = by_plain(&case);
         assert_eq!(answer.0, told, "{words}");

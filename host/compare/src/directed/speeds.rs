@@ -4,16 +4,17 @@ use ylhovesko::gear::Vehicle;
 
 use super::gear::{of_vehicle, Beside, BESIDE};
 use crate::gear::vehicle_text;
-use crate::speeds::{answer_text, by_plain};
+use crate::speeds::{answer_text, by_plain, Speed};
 use crate::Told;
 
-/// A vehicle, what is to be seen in it, and what 01 says of it: the refusal, and the ends of an upshift speed where they are worked out by hand, with the
-/// gear it is from.
+/// A vehicle, what is to be seen in it, and what 01 and 02 say of it: the refusal, and the ends of an upshift speed where they are worked out by hand, with
+/// the gear it is from; so those of the downshift 2 to 1.
 pub struct Directed {
     pub words: String,
     pub vehicle: Vehicle,
     pub told: Told,
-    pub ends: Vec<(usize, (i128, i128))>,
+    pub ends: Vec<(usize, Speed)>,
+    pub to_first: Option<Speed>,
 }
 
 /// A vehicle whose speeds are worked out apart from both implementations, with e to the power -x to 60 decimals, or with its ends as fractions where a
@@ -24,7 +25,7 @@ struct Worked {
     words: &'static str,
     vehicle: [u32; 4],
     ndv: &'static [u32],
-    ends: &'static [(i128, i128)],
+    ends: &'static [Speed],
 }
 
 const WORKED: [Worked; 20] = [
@@ -161,11 +162,42 @@ const WORKED: [Worked; 20] = [
 impl Worked {
     fn directed(&self) -> Directed {
         let [power, mass, rated, idle] = self.vehicle;
-        let mut vehicle = Vehicle { power, mass, rated, idle, gears: self.ndv.len() as u32, ndv: [0; 8] };
+        let mut vehicle = Vehicle { power, mass, rated, idle, gears: self.ndv.len() as u32, ndv: [0; 8], rule_set: 1 };
         vehicle.ndv[..self.ndv.len()].copy_from_slice(self.ndv);
         assert_eq!(self.ends.len(), self.ndv.len() - 1, "{}", self.words);
-        Directed { words: format!("taken: {}", self.words), vehicle, told: [0; 4], ends: (1..).zip(self.ends.iter().copied()).collect() }
+        let ends = (1..).zip(self.ends.iter().copied()).collect();
+        Directed { words: format!("taken: {}", self.words), vehicle, told: [0; 4], ends, to_first: None }
     }
+}
+
+/// What rule set 2 adds: n, s, the first three ratios, and the ends of 2 to 1. Annex 13's: 0.03 x 10,650 + 1,150 = 1,469.5 over 94.91 is 15.483089.
+const TO_FIRST: [(&str, [u32; 2], [u32; 3], Speed); 12] = [
+    ("Annex 13's machine, table Ap8-4: 15.5 km/h", [1150, 11_800], [13_366, 9491, 7616], (15_483, 15_484)),
+    ("14.7777, above 3 to 2", [1000, 12_000], [10_000, 9000, 8000], (14_777, 14_778)),
+    ("11.7 exactly", [1200, 8000], [20_000, 12_000, 9000], (11_700, 11_700)),
+    ("13 exactly", [1000, 11_000], [10_400, 10_000, 6500], (13_000, 13_000)),
+    ("515 over 1.001 is 514.4855, s is n + 500", [500, 1000], [1002, 1001, 1000], (51_448, 51_449)),
+    ("the lowest, 321 over 999.99", [300, 1000], [100_000, 99_999, 99_998], (321, 322)),
+    ("the highest, 3,510 over 10.01", [3000, 20_000], [1002, 1001, 1000], (350_649, 350_650)),
+    ("the greatest n with the least s", [3000, 3500], [23_000, 22_500, 1000], (13_400, 13_400)),
+    ("133,000,000 is 12,849 x 10,351 + 1", [1000, 12_000], [10_400, 10_351, 8000], (12_849, 12_850)),
+    ("133,000,000 is 10,351 x 12,849 + 1", [1000, 12_000], [13_000, 12_849, 8000], (10_351, 10_352)),
+    ("129,250,000 is 80,933 x 1,597 - 1", [1000, 10_750], [10_400, 1597, 1000], (80_932, 80_933)),
+    ("ratios beside it that would give 14 and 12", [1200, 8000], [11_700, 10_800, 10_029], (13_000, 13_000)),
+];
+
+/// By rule set 2 with the ends by hand, and by rule set 1 without any; P and m have no part in it, but in whether the sheet is taken.
+fn to_first() -> Vec<Directed> {
+    let mut all = Vec::new();
+    for (words, [idle, rated], [first, second, third], ends) in TO_FIRST {
+        let ndv = [first, second, third, 0, 0, 0, 0, 0];
+        for (rule_set, power) in [(1, 720), (2, 720), (2, 1)] {
+            let vehicle = Vehicle { power, mass: 199, rated, idle, gears: 3, ndv, rule_set };
+            let words = format!("taken: rule set {rule_set}, {words}");
+            all.push(Directed { words, vehicle, told: [0; 4], ends: Vec::new(), to_first: (rule_set == 2).then_some(ends) });
+        }
+    }
+    all
 }
 
 /// A speed of a whole number of 0.1 km/h that is below the lower end of a shift speed, or at it, by less than the first rounding takes is itself the
@@ -179,7 +211,7 @@ fn beside(speed: &Beside) -> Directed {
     };
     let gear = if speed.first { 1 } else { 2 };
     let words = format!("taken: {}.{} km/h is {}", speed.speed / 10, speed.speed % 10, speed.words());
-    Directed { words, vehicle: speed.vehicle(3), told: [0; 4], ends: vec![(gear, ends)] }
+    Directed { words, vehicle: speed.vehicle(3), told: [0; 4], ends: vec![(gear, ends)], to_first: None }
 }
 
 /// All of them, in the order of the file.
@@ -189,18 +221,23 @@ pub fn cases() -> Vec<Directed> {
         vehicle: directed.case.vehicle,
         told: directed.told,
         ends: Vec::new(),
+        to_first: None,
     });
-    WORKED.iter().map(Worked::directed).chain(BESIDE.iter().map(beside)).chain(judged).collect()
+    WORKED.iter().map(Worked::directed).chain(BESIDE.iter().map(beside)).chain(judged).chain(to_first()).collect()
 }
 
 /// The text of vectors/directed_speeds.txt. Stops where the second implementation does not say what is expected.
 pub fn text() -> String {
-    let mut text =
-        String::from("# P m s n ng ndv1..ndv8 number place; then both ends of each upshift speed from gear 1 on, in 0.001 km/h\n");
-    for Directed { words, vehicle, told, ends } in cases() {
+    let mut text = String::from(
+        "# P m s n ng ndv1..ndv8 rule_set number place; then both ends of each upshift speed from gear 1 on, in 0.001 km/h; then, under \
+         rule set 2, those of the downshift 2 to 1\n",
+    );
+    for Directed { words, vehicle, told, ends, to_first } in cases() {
         let answer = by_plain(&vehicle);
-        assert_eq!(answer.0, told, "{words}");
-        ends.iter().for_each(|(gear, ends)| assert_eq!(answer.1[gear - 1], *ends, "{words}"));
+        assert_eq!(answer.told, told, "{words}");
+        ends.iter().for_each(|(gear, ends)| assert_eq!(answer.upshifts[gear - 1], *ends, "{words}"));
+        assert_eq!(answer.to_first.is_some(), told[0] == 0 && vehicle.rule_set == 2, "{words}");
+        assert!(to_first.is_none() || answer.to_first == to_first, "{words}");
         text += &format!("# {words}\n{} {}\n", vehicle_text(&vehicle), answer_text(&answer));
     }
     text
