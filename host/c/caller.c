@@ -34,10 +34,36 @@ static void shift_speeds(ylhovesko_vehicle vehicle)
     expect("upshift 2 to 3", ends(speeds.upshift[1], 36497, 36498));
     expect("upshift 3 to 4", ends(speeds.upshift[2], 48663, 48664));
     expect("no further upshift", memcmp(speeds.upshift + 3, none, 4 * sizeof none[0]) == 0);
+    expect("no downshift 2 to 1 under rule set 1", ends(speeds.to_first, 0, 0));
+    vehicle.rule_set = 2;
+    speeds = ylhovesko_shift_speeds(vehicle);
+    expect("the same upshifts under rule set 2", is(speeds.outcome, 0, 0) && speeds.count == 3 && ends(speeds.upshift[2], 48663, 48664));
+    expect("downshift 2 to 1", ends(speeds.to_first, 11700, 11700));
     vehicle.gears = 9;
     speeds = ylhovesko_shift_speeds(vehicle);
     expect("gears", is(speeds.outcome, 5, 5));
-    expect("no speed beside a refusal", speeds.count == 0 && memcmp(speeds.upshift, none, sizeof none) == 0);
+    expect("no speed beside a refusal",
+           speeds.count == 0 && memcmp(speeds.upshift, none, sizeof none) == 0 && ends(speeds.to_first, 0, 0));
+}
+
+/* 11.6, 11.7 and 11.8 km/h in cruise; the downshift 2 to 1 of rule set 2 is 11.7 km/h, and 11.6 in gear 1 has the clutch in */
+static void rule_sets(ylhovesko_vehicle vehicle)
+{
+    const uint8_t cruise[] = {'W', 'T', 'R', 0, 1, 0, 3, 0, 116, 0, 2, 0, 117, 0, 2, 0, 118, 0, 2, 0};
+    const uint8_t by_set_1[] = {2, 1, 2, 0, 2, 0};
+    const uint8_t by_set_2[] = {1, 0, 2, 0, 2, 0};
+    uint8_t row[6];
+
+    vehicle.rule_set = 1;
+    expect("the outcome by rule set 1", is(ylhovesko_gears(cruise, sizeof cruise, vehicle, row, sizeof row, 0), 0, 0));
+    expect("the row by rule set 1", memcmp(row, by_set_1, sizeof row) == 0);
+    vehicle.rule_set = 2;
+    expect("the outcome by rule set 2", is(ylhovesko_gears(cruise, sizeof cruise, vehicle, row, sizeof row, 0), 0, 0));
+    expect("the row by rule set 2", memcmp(row, by_set_2, sizeof row) == 0);
+    vehicle.rule_set = 3;
+    expect("no third rule set", is(ylhovesko_gears(cruise, sizeof cruise, vehicle, row, sizeof row, 0), 5, 14));
+    expect("the row after the refusal", memcmp(row, by_set_2, sizeof row) == 0);
+    expect("no third rule set for speeds", is(ylhovesko_shift_speeds(vehicle).outcome, 5, 14));
 }
 
 /* 12.0 km/h in cruise, which is gear 2; 1,000 n + 30 (s - n) is 1,404,000 here, which is 120 x 11,700 */
@@ -113,7 +139,7 @@ int main(void)
     uint8_t damaged[sizeof normal];
     const uint8_t written[] = {7, 1, 1, 1, 1, 2, 0, 7};
     uint8_t buffer[8];
-    ylhovesko_vehicle vehicle = {300, 200, 8000, 1200, 4, {20000, 12000, 9000, 7000, 0, 0, 0, 0}};
+    ylhovesko_vehicle vehicle = {300, 200, 8000, 1200, 4, {20000, 12000, 9000, 7000, 0, 0, 0, 0}, 1};
     ylhovesko_vehicle rising = vehicle;
 
     if (ylhovesko_version() != YLHOVESKO_VERSION) {
@@ -144,6 +170,7 @@ int main(void)
 
     shift_speeds(vehicle);
     clutch(vehicle);
+    rule_sets(vehicle);
     presets();
     emission();
 

@@ -4,7 +4,7 @@
 int main()
 {
     const uint8_t stop[] = {'W', 'T', 'R', 0, 1, 0, 1, 0, 0, 0, 0, 0};
-    const ylhovesko_vehicle vehicle = {300, 200, 8000, 1200, 4, {20000, 12000, 9000, 7000, 0, 0, 0, 0}};
+    const ylhovesko_vehicle vehicle = {300, 200, 8000, 1200, 4, {20000, 12000, 9000, 7000, 0, 0, 0, 0}, 2};
     const ylhovesko_preset petrol = ylhovesko_petrol(750);
     uint8_t row[2];
     ylhovesko_bag_sheet sheet = {};
@@ -15,6 +15,6 @@ int main()
     const ylhovesko_speeds speeds = ylhovesko_shift_speeds(vehicle);
     const uint32_t chosen = ylhovesko_chosen(stop, sizeof stop, stop, sizeof stop, true);
     const ylhovesko_test_result result = ylhovesko_result(sheet);
-    const bool told = gears.number == 0 && speeds.count == 3 && chosen == YLHOVESKO_REDUCED && result.verdict.hc != YLHOVESKO_PASS;
+    const bool told = gears.number == 0 && speeds.count == 3 && speeds.to_first.lower == speeds.to_first.upper && chosen == YLHOVESKO_REDUCED && result.verdict.hc != YLHOVESKO_PASS;
     return told && ylhovesko_version() == YLHOVESKO_VERSION ? 0 : 1;
 }

@@ -18,12 +18,25 @@ static uint8_t row[2 * 2000];
 static ylhovesko_bag_sheet sheet;
 static ylhovesko_test_result result;
 
-static const ylhovesko_vehicle vehicle = {300, 200, 8000, 1200, 4, {20000, 12000, 9000, 7000, 0, 0, 0, 0}};
+static const ylhovesko_vehicle vehicle = {300, 200, 8000, 1200, 4, {20000, 12000, 9000, 7000, 0, 0, 0, 0}, 2};
+
+static void gears_by_set(uint32_t rule_set)
+{
+    ylhovesko_vehicle by_set = vehicle;
+
+    by_set.rule_set = rule_set;
+    if (ylhovesko_gears(trace, sizeof trace, by_set, row, sizeof row, 0).number != 0)
+        wrong = 1;
+}
 
 static void gears(void)
 {
-    if (ylhovesko_gears(trace, sizeof trace, vehicle, row, sizeof row, 0).number != 0)
-        wrong = 1;
+    gears_by_set(1);
+}
+
+static void gears_by_set_2(void)
+{
+    gears_by_set(2);
 }
 
 static void speeds(void)
@@ -91,7 +104,8 @@ int main(void)
     const ylhovesko_preset petrol = ylhovesko_petrol(750);
     const ylhovesko_part part = {.pump = 1000, .revolutions = 50000, .barometer = 101300, .distance = 1000, .density = petrol.density};
     const struct measured all[] = {
-        {"gears", gears}, {"shift speeds", speeds}, {"a pair of traces", pair}, {"a result", a_result}, {"a refused result", a_refused_result}};
+        {"gears", gears}, {"gears by rule set 2", gears_by_set_2}, {"shift speeds", speeds}, {"a pair of traces", pair}, {"a result", a_result},
+        {"a refused result", a_refused_result}};
     size_t k;
 
     for (k = 0; k < 2000; k++) {
