@@ -5,11 +5,15 @@ use mathlib.Core.List.{[], _∷_}
 use Prim.Native.Nat.{ℕ}
 use lib.IntN.{pos}
 use Rattle.arith.specs.declared.Ends.{Ends}
+use Rattle.arith.specs.Fraction.{Fraction, decimal}
 use Rattle.arith.specs.Rounding.{divDown, divUp}
 use Rattle.arith.specs.Stages.{exactly, sumOf, differenceOf, scaledBy, dividedBy}
 use Rattle.vehicle.specs.declared.VehicleSheet.{VehicleSheet}
+use Rattle.vehicle.proofs.Examples.{annex}
 use Rattle.shift.specs.declared.Shift.{Shift}
 use Rattle.shift.specs.declared.Own.{Own}
+use Rattle.shift.specs.Exact.{exactFirst, exactHigher}
+use Rattle.shift.specs.Cruise.{cruiseUpshift}
 use Rattle.shift.specs.Exponential.{nextTerm, termOf, withTerm, sumTo, exponentialOf}
 use Rattle.shift.specs.Speeds.{sideOf, higherSide, leftOf, below, above, tooClose, tallyOf, bySet1, belowSecond, bySet2, ownGear}
 
@@ -101,3 +105,14 @@ gear-1-goes-first = (refl, refl, refl)
 acceleration-of-set-2 : strong true 80 ≡ own 2
 unfolding strong ownGear bySet2 bySet1 tallyOf exactly
 acceleration-of-set-2 = refl
+
+-- ---- 004's cruise upshifts of Annex 13's machine, from an e of 1/2: 2-7a, 2-8, and 2-9 for i = 3, over ndv2
+half : Fraction
+half = decimal (pos 1) 2
+
+cruise-upshifts :
+    (cruiseUpshift annex half 0 ≡ decimal (pos 14695000) 949100)
+    × (cruiseUpshift annex half 1 ≡ decimal (pos 62969450000) 2673200000)
+    × (cruiseUpshift annex half 2 ≡ decimal (pos 8426945000) 189820000)
+unfolding half cruiseUpshift exactFirst exactHigher
+cruise-upshifts = (refl, refl, refl)
