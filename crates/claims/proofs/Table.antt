@@ -101,9 +101,9 @@ lines-each : (good : ℕ → Bool) (refusal : ℕ → Refusal) (k n : ℕ)
 lines-each good refusal k zero = refl
 lines-each good refusal k (suc n) = ap (λ (ls : List Line). lineOf (check (good k) (refusal k)) ∷ ls) (lines-each good refusal (k + 1) n)
 
-lines-third : (b : Bool) (cs : List Check) → linesOf (cond b cs []) ≡ cond b (linesOf cs) []
-lines-third true cs = refl
-lines-third false cs = refl
+lines-where : (b : Bool) (cs : List Check) → linesOf (cond b cs []) ≡ cond b (linesOf cs) []
+lines-where true cs = refl
+lines-where false cs = refl
 
 -- ---- in order
 both : {a b : Bool} → a ≡ true → b ≡ true → (a && b) ≡ true
@@ -213,7 +213,7 @@ module _ (trace : List ℕ) (v : VehicleSheet) (room start : ℕ) where
   gear-rising = rising-lines _ 4 1 0 (countOf trace) (outcome 3 0 0 0) _ refl ratios-rising (λ a l. ratios-rising)
 
   gear-lines : linesOf (gearChecks trace v room start) ≡ gearTable trace v room start
-  gear-lines = simp (lines-append, lines-each, lines-third)
+  gear-lines = simp (lines-append, lines-each, lines-where)
 
   pub gear-table : outcomeOf (gearAnswer trace v room start) ≡ firstOf (gearTable trace v room start)
   gear-table =

@@ -33,15 +33,12 @@ module _ (s : Shift) (speed : ℕ) where
       go false true = refl
       go false false = refl
 
-  pub taken : (accelerates : Bool) → goesFirst s accelerates speed ≡ true → ownGear s accelerates speed ≡ first (bySet1 s accelerates speed)
-  taken accelerates e =
+  -- as a test found it
+  pub as-tested : (accelerates : Bool) {goes : Bool} → goesFirst s accelerates speed ≡ goes
+      → ownGear s accelerates speed ≡ cond goes (first (bySet1 s accelerates speed)) (bySet1 s accelerates speed)
+  as-tested accelerates e =
       let own = bySet1 s accelerates speed in
-      by-sets accelerates ∙ ap (λ (b : Bool). cond b (first own) own) e
-
-  pub left : (accelerates : Bool) → goesFirst s accelerates speed ≡ false → ownGear s accelerates speed ≡ bySet1 s accelerates speed
-  left accelerates e =
-      let own = bySet1 s accelerates speed in
-      by-sets accelerates ∙ ap (λ (b : Bool). cond b (first own) own) e
+      by-sets accelerates ∙ ap (λ (goes : Bool). cond goes (first own) own) e
 
 -- a sheet that names set 1 has its gears
 pub stays : (s : Shift) → s .rules ≡ 1 → (accelerates : Bool) (speed : ℕ) → ownGear s accelerates speed ≡ bySet1 s accelerates speed
