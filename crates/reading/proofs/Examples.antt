@@ -1,15 +1,18 @@
--- Messages and their units, by computation, at bit patterns of the float: 01's known figures, halves, the limit, and what is unusable.
--- Assumes nothing.
+-- Messages and their units, by computation, at bit patterns of the float: 01's known figures, halves, the limit, and what is unusable; then
+-- patterns taken apart. Assumes nothing.
 use mathlib.Core.Path.{_≡_, refl}
 use Prim.Native.Nat.{ℕ}
 use lib.IntN.{pos}
 use lib.Ieee.{Float, binary32, ofBits}
 use Rattle.arith.specs.Rounding.{divDown}
 use Rattle.arith.specs.Stages.{exactly}
+use mathlib.Core.Bool.{Bool, true, false}
+use Rattle.reading.specs.declared.Binary.{Binary}
 use Rattle.reading.specs.declared.Message.the-variants.{Ppm, Percent}
 use Rattle.reading.specs.declared.Worth.{Worth}
 use Rattle.reading.specs.declared.Worth.the-variants.{Units, Unusable}
-use Rattle.reading.specs.Units.{unitsOf}
+use Rattle.reading.specs.Pattern.{binaryOf, over}
+use Rattle.reading.specs.Units.{nearest, unitsOf}
 
 abbrev float : ℕ → Float
 float bits = ofBits binary32 bits
@@ -82,3 +85,39 @@ infinite = refl
 not-a-number : unitsOf (Percent (float 0xffc0_1234)) ≡ Unusable
 unfolding unitsOf ofBits divDown
 not-a-number = refl
+
+-- ---- patterns
+abbrev binary : Bool → ℕ → ℕ → Binary
+binary negative exponent significand = record { negative = negative; exponent = exponent; significand = significand }
+
+-- 1: the leading digit is not written
+one : binaryOf 0x3f80_0000 ≡ binary false 127 8388608
+unfolding binaryOf
+one = refl
+
+-- the largest without a leading digit, and the float above
+largest-denormal : binaryOf 0x007f_ffff ≡ binary false 1 8388607
+unfolding binaryOf
+largest-denormal = refl
+
+smallest-normal : binaryOf 0x0080_0000 ≡ binary false 1 8388608
+unfolding binaryOf
+smallest-normal = refl
+
+-- minus zero, and the float below it
+minus-zero-apart : binaryOf 0x8000_0000 ≡ binary false 1 0
+unfolding binaryOf
+minus-zero-apart = refl
+
+below-zero-apart : binaryOf 0x8000_0001 ≡ binary true 1 1
+unfolding binaryOf
+below-zero-apart = refl
+
+infinite-apart : binaryOf 0xff80_0000 ≡ binary true 255 8388608
+unfolding binaryOf
+infinite-apart = refl
+
+-- 1/512 ppm is 256 · 2²³ / 2³² units, a half
+half-up : nearest (over 2147483648 32) ≡ pos 1
+unfolding divDown
+half-up = refl

@@ -1,6 +1,5 @@
-mod Product
-mod Tests
 mod Scaling
+mod Pattern
 pub mod Usable
 mod Examples
 pub mod Gas

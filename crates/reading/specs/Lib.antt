@@ -1,2 +1,3 @@
 pub mod Units
+pub mod Pattern
 pub mod Gas

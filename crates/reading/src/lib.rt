@@ -2,8 +2,9 @@
 ghost use mathlib.Core.Path.{_≡_};
 ghost use Prim.Native.Nat.{_^_, _≤_, _<_};
 ghost use lib.IntN.{pos};
-ghost use lib.Ieee.{ofBits, binary32};
-ghost use Rattle.reading.specs.Units.{exactValue, upToLimit, inUnits, unitsOf};
+ghost use lib.Ieee.{ofBits, toBits, binary32};
+ghost use Rattle.reading.specs.Pattern.{binaryOf, over};
+ghost use Rattle.reading.specs.Units.{exactValue, nearest, upToLimit, inUnits, unitsOf};
 use arith::Ends;
 
 // What the analyser sends for one gas.
@@ -39,20 +40,75 @@ fn up_to_limit(units: u64) -> Worth
     }
 }
 
-// A float in units, `each` of them to one ppm or percent. The range test turns away what is not a number, infinite, below zero or past 65,537,
-// which is over the limit in either measure; then the product is exact. It counts half units: one more of them, halved and cut, is the
-// nearest unit, halves up.
-fn in_units(x: f32, each: u32) -> Worth
+// The pattern of a float: the inverse of `float_of`. Of the many patterns that are not a number it gives the one that `toBits` names.
+fn bits_of(x: f32) -> u32
+    ensures { λ r. ⌜ r ≡ toBits binary32 x ⌝ }
+{
+    if x != x { 0x7fc0_0000 } else { f32::to_bits(x) }
+}
+
+// A float as IEEE 754 writes it: significand · 2^(exponent − 150), below zero where negative. The exponent 255 is left to what is infinite or not
+// a number.
+struct Binary {
+    negative: bool,
+    exponent: u64,
+    significand: u64,
+}
+
+// The pattern of minus zero is the least with a minus, and minus zero is not below zero. A denormal has the exponent's field 0: it lacks the leading
+// digit that the others have, and its exponent is 1.
+fn binary_of(bits: u32) -> Binary
+    ensures { λ r. ⌜ r ≡ binaryOf bits ⌝ }
+{
+    let negative: bool = bits > 0x8000_0000;
+    let field: u64 = (bits % 0x8000_0000 / 0x80_0000) as u64;
+    let trailing: u64 = (bits % 0x80_0000) as u64;
+    if field == 0 {
+        Binary {
+            negative: negative,
+            exponent: 1,
+            significand: trailing,
+        }
+    } else {
+        Binary {
+            negative: negative,
+            exponent: field,
+            significand: trailing + 0x80_0000,
+        }
+    }
+}
+
+// The whole number nearest to product / 2^places, halves up. A shift by the word's width or more has no meaning, and there nothing is left.
+fn nearest_whole(product: u64, places: u64) -> u64
+    requires { ⌜ product < 2 ^ 52 ⌝ }
+    ensures { λ r. ⌜ pos r ≡ nearest (over product places) ⌝ }
+{
+    if places >= 64 {
+        return 0;
+    }
+    let one: u64 = 1 << places;
+    let whole: u64 = product / one;
+    if 2 * (product % one) >= one {
+        whole + 1
+    } else {
+        whole
+    }
+}
+
+// A float in units, `each` of them to one ppm or percent, in whole numbers from its bits. From the exponent 144 on, which is 131,072, a float is
+// over the limit in either measure, infinite or not a number.
+fn in_units(x: f32, each: u64) -> Worth
     requires { ⌜ 256 ≤ each ⌝ ∗ ⌜ each < 2 ^ 28 ⌝ }
     ensures { λ r. ⌜ r ≡ inUnits (pos each) (exactValue x) ⌝ }
 {
-    if x >= 0.0 {
-        if x <= 65537.0 {
-            let halves: f64 = (x as f64) * ((2 * each) as f64);
-            return up_to_limit((std::num::truncating_f64_to_u64(halves) + 1) / 2);
-        }
+    let binary = binary_of(bits_of(x));
+    if binary.negative {
+        return Worth::Unusable;
     }
-    Worth::Unusable
+    if binary.exponent >= 144 {
+        return Worth::Unusable;
+    }
+    up_to_limit(nearest_whole(each * binary.significand, 150 - binary.exponent))
 }
 
 pub fn convert(message: Message) -> Worth

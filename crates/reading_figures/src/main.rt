@@ -27,7 +27,7 @@ fn row(bits: u32) {
     end_line();
 }
 
-// Zero, minus zero, and the floats next to them; the smallest that is no subnormal.
+// Zero, minus zero, and the floats next to them; the smallest that is no denormal.
 fn zeros() {
     row(0x0000_0000);
     row(0x8000_0000);

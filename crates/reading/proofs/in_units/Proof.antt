@@ -1,65 +1,91 @@
--- `reading::in_units` meets its contract, by the laws of proofs/Scaling.antt. Assumes nothing.
-use mathlib.Core.Path.{ap, _∙_}
-use Prim.Native.Nat.{ℕ, _+_, _/_}
+-- `reading::in_units` meets its contract, by the laws of proofs/Pattern.antt: the bits of a float are read back as the float. Assumes nothing.
+use mathlib.Core.Path.{_≡_, sym, ap, _∙_, subst}
+use Prim.Native.Nat.{ℕ, _-_, _*_, _^_, _≤_, _<_}
+use native.Mathlib.Nat.{le-of-lt, lt-of-le-of-lt, mul-le-mul-left, mul-lt-mul-of-pos-right}
 use native.Mathlib.Omega.{arith}
-use mathlib.Core.Bool.{not}
+use mathlib.Core.Bool.{Bool, true, false}
+use lib.Dec.{T}
+use lib.Pow.{pow-pos}
 use lib.IntN.{pos}
-use lib.Ieee.{binary64, fits, isNan, ofBits}
-use lib.Ieee.Fits.{and-i, fits-widens}
+use lib.Ieee.{Float, binary32, ofBits}
+use lib.Ieee.Bits.{ofBits-toBits}
 use borrow.Author.Needs.{needs}
-use Rattle.reading.specs.Units.{upToLimit}
-use Rattle.reading.proofs.Tests.{no-nan}
-use Rattle.reading.proofs.Scaling.{Within, within, refused-below, refused-above}
+use Rattle.reading.specs.declared.Binary.{Binary}
+use Rattle.reading.specs.Units.{exactValue, nearest, upToLimit, inUnits}
+use Rattle.reading.specs.Pattern.{binaryOf, over}
+use Rattle.reading.proofs.Pattern.{reads, negative, too-large, in-range}
 use Rattle.reading.proofs.in_units.Statement.{statement}
 use Rattle.reading.proofs.in_units.Tie as tie
 
--- past the two tests
-module _ (c : tie.After-row-known) where
-  abbrev start : tie.Start
-  start = c .before .before .before
+module _ (c : tie.After-binary-of) where
+  abbrev x : Float
+  x = c .before .before .args .x
 
-  inside : Within (start .args .x) (start .args .each)
-  unfolding ofBits
-  inside = within (start .args .x) (start .args .each) (c .row-known .given) (start .pre .1) (c .before .before .if1 .taken) (c .before .if2 .taken)
+  abbrev k : ℕ
+  k = c .before .before .args .each
 
-float-to-float-halves : tie.Need-float-to-float-halves
-unfolding ofBits
-float-to-float-halves c =
-    let x = c .before .before .before .args .x in
-    and-i (fits binary64 x) (not (isNan x)) (fits-widens x (c .row-known .given)) (no-nan x (c .before .before .if1 .taken))
+  abbrev bits : ℕ
+  bits = c .before .bits-of .result
 
-truncating-f64-to-u64-requires : tie.Need-truncating-f64-to-u64-requires
-truncating-f64-to-u64-requires c κs = (inside (c .before) .above, inside (c .before) .below)
+  abbrev binary : Binary
+  binary = c .binary-of .result
 
-add-up-to-limit : tie.Need-add-up-to-limit
-add-up-to-limit c = omega (arith, inside (c .before .before) .small, c .truncating-f64-to-u64 .ensures)
+  read-back : ofBits binary32 bits ≡ x
+  read-back = ap (ofBits binary32) (c .before .bits-of .ensures) ∙ ofBits-toBits binary32 x (subst T (sym (c .before .before .good .0 .1)) tt)
+
+  worth : inUnits (pos k) (exactValue (ofBits binary32 bits)) ≡ inUnits (pos k) (exactValue x)
+  worth = ap (λ (y : Float). inUnits (pos k) (exactValue y)) read-back
+
+  wide : bits < 2 ^ 32
+  wide = c .before .bits-of .ok
+
+  is : binary ≡ binaryOf bits
+  is = c .binary-of .ensures
+
+  signed : (t : Bool) → binary .negative ≡ t → binaryOf bits .negative ≡ t
+  signed t h = sym (ap (λ (b : Binary). b .negative) is) ∙ h
+
+  product-lt : k * binary .significand < 2 ^ 52
+  product-lt =
+      lt-of-le-of-lt (mul-le-mul-left k (le-of-lt (subst (λ (b : Binary). b .significand < 2 ^ 24) (sym is) (reads bits .few))))
+      (mul-lt-mul-of-pos-right (c .before .before .pre .1) (pow-pos 24))
 
 returns : tie.Need-returns
-returns c =
-    c .up-to-limit .ensures
-    ∙ ap (λ (n : ℕ). upToLimit (pos ((n + 1) / 2))) (c .before .truncating-f64-to-u64 .ensures)
-    ∙ inside (c .before .before .before) .right
+returns c = let at = c .before in negative (bits at) (k at) (wide at) (signed at true (c .if1 .taken)) ∙ worth at
 
 returns-2 : tie.Need-returns-2
-unfolding ofBits
 returns-2 c =
-    let start = c .before .before in
-    refused-above (start .args .x) (start .args .each) (start .pre .0) (c .before .if1 .taken) (c .if2 .left)
+    let at = c .before .before .before in
+    too-large (bits at) (k at) (at .before .before .pre .0) (signed at false (c .before .before .if1 .left))
+    (subst (λ (b : Binary). 144 ≤ b .exponent) (is at) (omega (arith, c .if2 .taken)))
+    ∙ worth at
+
+mul-nearest-whole : tie.Need-mul-nearest-whole
+mul-nearest-whole c = omega (arith, product-lt (c .before .before .before .before))
+
+nearest-whole-requires : tie.Need-nearest-whole-requires
+nearest-whole-requires c κs = product-lt (c .before .before .before .before .before)
 
 returns-3 : tie.Need-returns-3
-unfolding ofBits
-returns-3 c = refused-below (c .before .args .x) (c .before .args .each) (c .if1 .left)
+returns-3 c =
+    let past = c .before .before .before .before in
+    let at = past .before .before .before in
+    c .up-to-limit .ensures
+    ∙ ap upToLimit (c .before .nearest-whole .ensures)
+    ∙ ap (λ (b : Binary). upToLimit (nearest (over (k at * b .significand) (150 - b .exponent)))) (is at)
+    ∙ in-range (bits at) (k at) (signed at false (past .before .before .if1 .left)) (subst (λ (b : Binary). b .exponent < 144) (is at) (omega (arith, past .if2 .left)))
+    ∙ worth at
 
 pub in-units-spec : {M : Type 1} → statement M
 in-units-spec =
     tie.close
     (tie.spec
-    float-to-float-halves
-    (λ c. search needs)
-    (λ c. search needs)
-    truncating-f64-to-u64-requires
-    add-up-to-limit
+    (λ c κs. search needs)
     (λ c κs. search needs)
     returns
     returns-2
+    mul-nearest-whole
+    (λ c. search needs)
+    nearest-whole-requires
+    (λ c κs. search needs)
     returns-3)
