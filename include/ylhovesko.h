@@ -6,10 +6,12 @@
  * most 8 KiB of stack.
  *
  * Every function answers every input: a damaged file or sheet is refused with a number and a place, and on a refusal every buffer stays as it was
- * lent. The caller has to see to four things only, which no proof can: each pointer is not null, not even with length 0, and leads to as many
- * bytes as its length says; no buffer that is written overlaps anything else that is lent; a bool is 0 or 1; floats are in the processor's default
- * mode, in which denormals are not flushed to zero (a program that is linked with -ffast-math may have another, and a reading just below zero
- * would be taken).
+ * lent. The caller has to see to three things only, which no proof can: each pointer is not null, not even with length 0, and leads to as many
+ * bytes as its length says; no buffer that is written overlaps anything else that is lent; a bool is 0 or 1.
+ *
+ * The processor's float mode does not matter, neither how it rounds nor whether it flushes denormals to zero. Readings are converted from their bits,
+ * in whole numbers; the only float operation is to compare a reading with itself, in single precision, to see whether it is a number. That traps only
+ * where the program has asked for traps on denormal operands.
  */
 #ifndef YLHOVESKO_H
 #define YLHOVESKO_H

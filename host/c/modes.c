@@ -1,0 +1,117 @@
+/* Whether an answer depends on the processor's float mode: each call is made in every rounding, with denormal results flushed to zero or not and with
+   denormal operands read as zero or not. Ends with 0 where all answers are those of document 01. */
+#include <stdio.h>
+#include <string.h>
+
+#include "ylhovesko.h"
+
+/* the control register of x86-64's floats: all exceptions masked, as a process starts, and the bits that are changed */
+enum { USUAL = 0x1f80, OPERANDS_TO_ZERO = 0x40, ROUNDING = 0x2000, RESULTS_TO_ZERO = 0x8000, REFUSED = -1 };
+
+static void set_mode(uint32_t mode)
+{
+    __asm__ volatile("ldmxcsr %0" : : "m"(mode) : "memory");
+}
+
+struct reading_case {
+    uint32_t kind;
+    uint32_t bits;
+    long units; /* of 1/256 ppm */
+};
+
+static const struct reading_case cases[] = {
+    /* zeros, and the denormals with each sign */
+    {YLHOVESKO_PPM, 0x00000000, 0},
+    {YLHOVESKO_PPM, 0x80000000, 0},
+    {YLHOVESKO_PERCENT, 0x80000000, 0},
+    {YLHOVESKO_PPM, 0x00000001, 0},
+    {YLHOVESKO_PERCENT, 0x007fffff, 0},
+    {YLHOVESKO_PPM, 0x80000001, REFUSED},
+    {YLHOVESKO_PERCENT, 0x80000001, REFUSED},
+    {YLHOVESKO_PPM, 0x80400000, REFUSED},
+    {YLHOVESKO_PPM, 0x807fffff, REFUSED},
+    {YLHOVESKO_PERCENT, 0x807fffff, REFUSED},
+    {YLHOVESKO_PPM, 0x80800000, REFUSED},
+    /* on both sides of a half */
+    {YLHOVESKO_PPM, 0x3affffff, 0},
+    {YLHOVESKO_PPM, 0x3b000000, 1},
+    {YLHOVESKO_PPM, 0x3c1fffff, 2},
+    {YLHOVESKO_PPM, 0x3c200000, 3},
+    {YLHOVESKO_PERCENT, 0x3451b717, 0},
+    {YLHOVESKO_PERCENT, 0x3451b718, 1},
+    {YLHOVESKO_PERCENT, 0x39000000, 313},
+    /* the limit, what is infinite, what is not a number */
+    {YLHOVESKO_PPM, 0x47800000, 16777216},
+    {YLHOVESKO_PPM, 0x47800001, REFUSED},
+    {YLHOVESKO_PERCENT, 0x40d1b717, 16777216},
+    {YLHOVESKO_PERCENT, 0x40d1b718, REFUSED},
+    {YLHOVESKO_PPM, 0x7f800000, REFUSED},
+    {YLHOVESKO_PPM, 0x7f800001, REFUSED},
+    {YLHOVESKO_PERCENT, 0xffc01234, REFUSED},
+};
+
+static ylhovesko_bag_sheet sheet;
+
+/* 256 cubic metres at the reference state and 1,000 mg per cubic metre: a microgram for each unit of 1/256 ppm */
+static void fill_sheet(void)
+{
+    const ylhovesko_densities density = {1000, 1000, 1000, 1000};
+    const ylhovesko_triple triple = {200, 0, 0};
+    const ylhovesko_fuel fuel = {1155, 866, 429, 273, 750};
+
+    sheet.class_number = 1;
+    sheet.parts = 2;
+    sheet.triple = triple;
+    sheet.fuel = fuel;
+    for (int i = 0; i < 2; i++) {
+        sheet.part[i].pump = 2560;
+        sheet.part[i].revolutions = 100000;
+        sheet.part[i].barometer = 101325;
+        sheet.part[i].temperature = 200;
+        sheet.part[i].distance = 1000;
+        sheet.part[i].density = density;
+    }
+}
+
+static int is_told(const struct reading_case *c, const ylhovesko_test_result *r)
+{
+    const ylhovesko_ends mass = r->part[1].mass.co;
+
+    if (c->units == REFUSED)
+        return r->outcome.number == 12 && r->outcome.at == 2 && r->outcome.within == 2 && r->outcome.side == 1;
+    return r->outcome.number == 0 && mass.lower == c->units && mass.upper == c->units;
+}
+
+static int wrong_in(uint32_t mode)
+{
+    int wrong = 0;
+
+    for (size_t i = 0; i < sizeof cases / sizeof cases[0]; i++) {
+        ylhovesko_test_result usual, told;
+
+        sheet.part[1].bag.co.kind = cases[i].kind;
+        sheet.part[1].bag.co.bits = cases[i].bits;
+        usual = ylhovesko_result(sheet);
+        set_mode(mode);
+        told = ylhovesko_result(sheet);
+        set_mode(USUAL);
+        if (memcmp(&told, &usual, sizeof told) != 0 || !is_told(&cases[i], &told)) {
+            printf("mode %04x: %08x of kind %u has another answer\n", (unsigned)mode, (unsigned)cases[i].bits, (unsigned)cases[i].kind);
+            wrong = 1;
+        }
+    }
+    return wrong;
+}
+
+int main(void)
+{
+    int wrong = 0;
+
+    fill_sheet();
+    for (uint32_t rounding = 0; rounding < 4; rounding++)
+        for (int zeros = 0; zeros < 4; zeros++)
+            wrong |= wrong_in(USUAL | rounding * ROUNDING | (zeros & 1 ? OPERANDS_TO_ZERO : 0) | (zeros & 2 ? RESULTS_TO_ZERO : 0));
+    if (!wrong)
+        puts("no answer depends on the float mode");
+    return wrong;
+}
