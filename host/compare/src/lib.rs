@@ -5,6 +5,7 @@ pub mod directed;
 pub mod gear;
 pub mod pairs;
 pub mod random;
+pub mod readings;
 pub mod speeds;
 
 /// An outcome as four numbers: 0 or the refusal's number, and its place.
