@@ -18,10 +18,10 @@ returns c =
     let u = c .before .before .args .units in
     ap Units (c .exactly .ensures)
     ∙ ap (λ (z : ℤ). Units (exactly z)) (back (pos u) (omega (arith, c .before .if1 .taken)))
-    ∙ sym (ap (λ (t : Bool). cond t (Units (exactly (pos u))) Unusable) (le-leb u mostUnits (c .before .if1 .taken)))
+    ∙ sym (ap (λ (t : Bool). cond t (Units (exactly (pos u))) Unusable) (le-leb u mostUnits (omega (arith, c .before .if1 .taken))))
 
 returns-2 : tie.Need-returns-2
-returns-2 c = past (c .before .args .units) (c .if1 .left)
+returns-2 c = past (c .before .args .units) (omega (arith, c .if1 .left))
 
 pub up-to-limit-spec : {M : Type 1} → statement M
 up-to-limit-spec = tie.close (tie.spec (λ c. search needs) (λ c κs. search needs) returns returns-2)
