@@ -1,7 +1,7 @@
--- 01, Refusal numbers: the table, row by row. A place is up to three numbers; `none` is the table's "none".
+-- 01, Refusal numbers, and 02, M-103, for 16 and 17: the table, row by row. A place is up to three numbers; `none` is the table's "none".
 use Prim.Native.Nat.{ℕ}
 use Rattle.refusal.specs.declared.Refusal.{Refusal}
-use Rattle.refusal.specs.declared.Refusal.the-variants.{Header, Count, Length, Second, Vehicle, Ratio, PowerToMass, Room, TooClose, Parts, Value, Reading, Dilution, Humidity, PairCounts}
+use Rattle.refusal.specs.declared.Refusal.the-variants.{Header, Count, Length, Second, Vehicle, Ratio, PowerToMass, Room, TooClose, Parts, Value, Reading, Dilution, Humidity, PairCounts, ReferenceMass, RotatingOrSpeed}
 use Rattle.refusal.specs.declared.Place.{Place}
 use Rattle.refusal.specs.declared.Entry.{Entry}
 
@@ -41,6 +41,8 @@ entryOf (Reading part gas side) = 12 given onSide part gas side
 entryOf (Dilution part) = 13 given at part
 entryOf (Humidity part) = 14 given at part
 entryOf PairCounts = 15 given none
+entryOf ReferenceMass = 16 given none
+entryOf RotatingOrSpeed = 17 given none
 
 abbrev pub numberOf : Refusal → ℕ
 numberOf r = entryOf r .number

@@ -1,4 +1,4 @@
-// The table of refusals (01, Refusal numbers): one case for each row, in the table's order. A new row is a line of this enum, of
+// The table of refusals (01, Refusal numbers; 16 and 17 by 02, M-103): one case for each row, in the table's order. A new row is a line of this enum, of
 // specs/Table.antt and of `entry_of`, with its line in each of the two lists of that function's proof.
 ghost use mathlib.Core.Path.{_≡_};
 ghost use Rattle.refusal.specs.Table.{_given_, onSide, entryOf, numberOf, placeOf};
@@ -21,6 +21,8 @@ pub enum Refusal {
     Dilution { part: u32 },
     Humidity { part: u32 },
     PairCounts,
+    ReferenceMass,
+    RotatingOrSpeed,
 }
 
 // Where a refusal points: `at` is the second, the part, the gear or the vehicle sheet's field, `within` the field or the gas of a part, and
@@ -66,6 +68,8 @@ pub fn entry_of(refusal: Refusal) -> Entry
         Refusal::Dilution { part } => row(13, part, 0, 0),
         Refusal::Humidity { part } => row(14, part, 0, 0),
         Refusal::PairCounts => row(15, 0, 0, 0),
+        Refusal::ReferenceMass => row(16, 0, 0, 0),
+        Refusal::RotatingOrSpeed => row(17, 0, 0, 0),
     }
 }
 
