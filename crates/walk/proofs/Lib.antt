@@ -2,3 +2,4 @@ pub mod Walk
 pub mod Stores
 pub mod Pairs
 pub mod Ends
+pub mod Listed

@@ -14,6 +14,11 @@ abbrev pub scan : {A : Type 0} → (ℕ → Bool) → (ℕ → A) → (ℕ → A
 scan good out done k zero = done k
 scan good out done k (suc n) = cond (good k) (scan good out done (k + 1) n) (out k)
 
+-- a list of n places: what `at` says of 0, of 1, .., of n - 1
+unfoldable pub listed : {A : Type 0} → (ℕ → A) → ℕ → List A
+listed at zero = []
+listed at (suc n) = listed at n ++ (at n ∷ [])
+
 -- two bytes for each of n places: one 0, other 0, one 1, other 1, ..
 abbrev pub pairs : (ℕ → ℕ) → (ℕ → ℕ) → ℕ → List ℕ
 pairs one other zero = []
