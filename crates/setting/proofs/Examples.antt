@@ -1,0 +1,20 @@
+-- The edges of the table by the definition itself. Assumes nothing.
+use mathlib.Core.Path.{_≡_, refl}
+use Prim.Native.Nat.{ℕ}
+use Rattle.refusal.specs.declared.Refusal.the-variants.{ReferenceMass}
+use Rattle.setting.specs.declared.SettingAnswer.{SettingAnswer}
+use Rattle.setting.specs.declared.SettingAnswer.the-variants.{Set, Refused}
+use Rattle.setting.specs.Annex3.{settingAnswer}
+
+abbrev set : ℕ → ℕ → ℕ → SettingAnswer
+set inertia resistance drag = Set (record { inertia = inertia; resistance = resistance; drag = drag })
+
+-- "A mass of exactly 105.0 kg belongs to 100, and 105.1 to 110"; above 95, up to 505
+masses : (settingAnswer 950 ≡ Refused ReferenceMass)
+    × (settingAnswer 951 ≡ set 100 88 215)
+    × (settingAnswer 1050 ≡ set 100 88 215)
+    × (settingAnswer 1051 ≡ set 110 97 217)
+    × (settingAnswer 5050 ≡ set 500 440 275)
+    × (settingAnswer 5051 ≡ Refused ReferenceMass)
+unfolding settingAnswer
+masses = (refl, refl, refl, refl, refl, refl)

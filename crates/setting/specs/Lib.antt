@@ -1,0 +1,2 @@
+pub mod Annex3
+pub mod Setting
