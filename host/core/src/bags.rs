@@ -186,11 +186,7 @@ pub(crate) struct Figures {
 pub fn result(sheet: Sheet) -> Result<TestResult, Refusal> {
     agreed();
     let TestOutcome { outcome, figures } = calls::result(sheet);
-    if let Err(refusal) = outcome.told() {
-        assert_eq!(figures, Figures::default(), "a refused sheet has no figures");
-        return Err(refusal);
-    }
-    let Figures { parts, weighted, verdicts, fuel } = figures;
+    let Figures { parts, weighted, verdicts, fuel } = outcome.beside(figures)?;
     Ok(TestResult { parts, weighted, verdicts: Gases::of(verdicts.each().map(Verdict::of)), fuel })
 }
 
