@@ -65,7 +65,7 @@ all-accepted : (ls : List Line) → AllHold ls → firstOf ls ≡ accepted
 all-accepted [] h = refl
 all-accepted (l ∷ ls) h = ap (λ (b : Bool). cond b (firstOf ls) (l .gives)) (h .0) ∙ all-accepted ls (h .1)
 
-decides : (ls : List Line) → Numbered ls → Exactly (firstOf ls) ls
+pub decides : (ls : List Line) → Numbered ls → Exactly (firstOf ls) ls
 decides ls some =
     record {
       refused = refused-first ls;
@@ -139,7 +139,7 @@ number-kept e f some is = go (ltb (e .number) (f .number)) refl (eqb (e .number)
     go false less true same c is = omega (arith, eqb-true)
     go false less false same c is = absurd (false≢true is)
 
-rising-numbered : (last : Outcome) (ls : List Line) → 1 ≤ last .number → rising last ls ≡ true → Numbered ls
+pub rising-numbered : (last : Outcome) (ls : List Line) → 1 ≤ last .number → rising last ls ≡ true → Numbered ls
 rising-numbered last [] some is = tt
 rising-numbered last (l ∷ ls) some is =
     let two = parts (notAfter last (l .gives)) (rising (l .gives) ls) is in
