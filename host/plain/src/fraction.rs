@@ -1,4 +1,4 @@
-//! Fractions of whole numbers that are wide enough for every figure of the emission sheet.
+//! Fractions of whole numbers that are wide enough for every figure of the sheets.
 
 use std::cmp::Ordering;
 
@@ -49,6 +49,18 @@ impl Fraction {
     pub fn between(self, lower: i128, upper: i128) -> bool {
         let multiple = |n: i128| Wide::from(n).times(self.denominator);
         multiple(lower).cmp(self.numerator) != Ordering::Greater && multiple(upper).cmp(self.numerator) != Ordering::Less
+    }
+
+    /// Whether it is the one where it is rounded down and the other where it is rounded up: it lies between them, and between no nearer two.
+    ///
+    /// ```
+    /// use plain::fraction::Fraction;
+    /// let (half, two) = (Fraction::new(1, 2), Fraction::new(6, 3));
+    /// assert!(half.rounds_to(0, 1) && !half.rounds_to(0, 2) && !half.rounds_to(1, 1));
+    /// assert!(two.rounds_to(2, 2) && !two.rounds_to(1, 2) && !two.rounds_to(2, 3));
+    /// ```
+    pub fn rounds_to(self, lower: i128, upper: i128) -> bool {
+        self.between(lower, upper) && !self.between(lower + 1, upper) && !self.between(lower, upper - 1)
     }
 }
 
