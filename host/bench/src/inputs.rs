@@ -79,3 +79,9 @@ pub fn sheets(count: usize) -> [(&'static str, Vec<Sheet>); 2] {
     let odd = (0..).map(compare::bags::case).filter(accepted).take(count).collect();
     [("ordinary", usual), ("random", odd)]
 }
+
+/// So many reference masses and rotating masses that are accepted, from the whole of both ranges.
+pub fn masses(count: usize) -> Vec<(u32, u32)> {
+    let mut random = Random::new(1);
+    (0..count).map(|_| (random.from(951, 5050), random.from(0, 50_000))).collect()
+}
