@@ -4,6 +4,26 @@ use crate::{files, Failure};
 use std::ffi::{OsStr, OsString};
 use std::path::{Path, PathBuf};
 
+/// Where a command writes a table and a picture beside what it prints.
+#[derive(Default)]
+pub struct Outputs<'a> {
+    csv: Option<&'a Path>,
+    svg: Option<&'a Path>,
+}
+
+impl Outputs<'_> {
+    /// Makes and writes what is asked for.
+    pub fn write(&self, csv: impl FnOnce() -> String, svg: impl FnOnce() -> String) -> Result<(), Failure> {
+        if let Some(path) = self.csv {
+            files::write(path, &csv())?;
+        }
+        if let Some(path) = self.svg {
+            files::write(path, &svg())?;
+        }
+        Ok(())
+    }
+}
+
 /// What stands after a command, taken apart.
 pub struct Arguments {
     words: Vec<OsString>,
@@ -60,6 +80,12 @@ impl Arguments {
             named.push(out.to_path_buf());
         }
         Ok(options.map(|option| self.option(option)))
+    }
+
+    /// The files that --csv and --svg name.
+    pub fn table_and_picture(&self) -> Result<Outputs<'_>, Failure> {
+        let [csv, svg] = self.outputs(["--csv", "--svg"])?;
+        Ok(Outputs { csv, svg })
     }
 
     /// The words where there are exactly as many as the command takes, which are `wanted`.

@@ -1,6 +1,6 @@
 //! The gears of a trace, or of the one of a pair that the bench's reduced-speed switch names.
 
-use crate::arguments::Arguments;
+use crate::arguments::{Arguments, Outputs};
 use crate::files::{self, Given};
 use crate::pair::Pair;
 use crate::{picture, refusals, row, trace, vehicle, Failure, Told};
@@ -9,17 +9,9 @@ use std::path::Path;
 use ylhovesko::gear::Vehicle;
 use ylhovesko::Refusal;
 
-/// Where a row is written beside what is printed.
-#[derive(Default)]
-pub struct Outputs<'a> {
-    csv: Option<&'a Path>,
-    svg: Option<&'a Path>,
-}
-
 pub fn gears(given: &[OsString]) -> Result<Told, Failure> {
     let arguments = Arguments::of(given, &["--csv", "--svg"], &["--pair", "--reduced"])?;
-    let [csv, svg] = arguments.outputs(["--csv", "--svg"])?;
-    let outputs = Outputs { csv, svg };
+    let outputs = arguments.table_and_picture()?;
     if arguments.has("--pair") {
         let [normal, reduced, vehicle] = arguments.exactly("a normal and a reduced trace and a vehicle sheet")?;
         return of_pair(&Pair::read(&normal, &reduced)?, arguments.has("--reduced"), &files::vehicle(&vehicle)?, outputs);
@@ -52,12 +44,7 @@ fn of_bytes(title: &str, trace: &[u8], vehicle: &Given<Vehicle>, outputs: Output
         Ok(row) => row,
         Err(refusal) => return Ok(Told::refused(line(trace, vehicle, refusal) + "\n").noting(&vehicle.notes)),
     };
-    if let Some(path) = outputs.csv {
-        files::write(path, &row::csv(&row, vehicle.value.rule_set))?;
-    }
-    if let Some(path) = outputs.svg {
-        files::write(path, &picture::svg(title, &row))?;
-    }
+    outputs.write(|| row::csv(&row, vehicle.value.rule_set), || picture::svg(title, &row))?;
     Ok(Told::accepted(format!("{title}\n\n{}", row::table(&row))).noting(&vehicle.notes))
 }
 

@@ -6,7 +6,7 @@ use ylhovesko::Refusal;
 pub const GASES: [&str; 4] = ["HC", "CO", "NOx", "CO2"];
 
 /// "Given when", row by row.
-const ROWS: [&str; 15] = [
+const ROWS: [&str; 17] = [
     "under 8 bytes, mark, zero byte or version wrong",
     "count not 1 to 2,000",
     "length not 8 + 4 x count",
@@ -22,6 +22,8 @@ const ROWS: [&str; 15] = [
     "G not below Q",
     "H above 30",
     "normal and reduced counts differ",
+    "reference mass outside the table",
+    "rotating mass or speed outside",
 ];
 
 /// Where a refusal lies and what stands there, in words; empty where there is neither.

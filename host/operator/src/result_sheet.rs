@@ -1,24 +1,12 @@
 //! The result of a test, printed. Every figure has two ends, and the exact one lies between them or at one of them.
 
+use crate::numbers::grouped;
 use crate::refusals::GASES;
 use ylhovesko::bags::{Ends, Gases, PartResult, Sheet, TestResult, Verdict};
 
 /// The state to which the core's volumes are brought, and to which a sheet's densities belong. The paper's formula is of 0 degrees, so that its volumes
 /// are about 7 % less; docs/DECISIONS.md says why the core has the regulation's.
 const REFERENCE: &str = "at 20 degrees C and 101.325 kPa";
-
-/// A number with a comma after each three digits, and a minus sign below zero.
-pub fn grouped(number: i128) -> String {
-    let digits = number.unsigned_abs().to_string();
-    let mut text = if number < 0 { "-".to_string() } else { String::new() };
-    for (i, digit) in digits.chars().enumerate() {
-        if i > 0 && (digits.len() - i).is_multiple_of(3) {
-            text.push(',');
-        }
-        text.push(digit);
-    }
-    text
-}
 
 fn both(ends: Ends) -> String {
     format!("{:>20} {:>20}", grouped(ends.lower.into()), grouped(ends.upper.into()))

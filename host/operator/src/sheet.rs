@@ -4,7 +4,7 @@
 //! that the core refuses it and says where it stands. What a sheet holds beside its values is named in a note.
 
 use crate::field::{Form, Key};
-use crate::result_sheet::grouped;
+use crate::numbers::grouped;
 use ylhovesko::bags::Reading;
 
 /// No unsigned field of a sheet reaches this.

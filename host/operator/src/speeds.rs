@@ -2,6 +2,7 @@
 
 use crate::arguments::Arguments;
 use crate::files::{self, Given};
+use crate::numbers::decimal;
 use crate::result_sheet::heading;
 use crate::{refusals, vehicle, Failure, Told};
 use std::ffi::OsString;
@@ -48,9 +49,7 @@ fn shifts(speeds: &ShiftSpeeds) -> Vec<Shift> {
 
 /// A speed of 0.001 km/h in km/h.
 fn kilometres_an_hour(thousandths: i64) -> String {
-    let sign = if thousandths < 0 { "-" } else { "" };
-    let size = thousandths.unsigned_abs();
-    format!("{sign}{}.{:03}", size / 1000, size % 1000)
+    decimal(thousandths, 3)
 }
 
 fn table(word: &str, shifts: &[Shift]) -> String {

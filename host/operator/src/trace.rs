@@ -1,8 +1,8 @@
 //! The bytes of a house file, to be made and to be shown: the core alone judges them.
 
 use crate::files::LONGEST;
+use crate::numbers::{decimal, grouped};
 use crate::refusals::Found;
-use crate::result_sheet::grouped;
 use std::path::PathBuf;
 use ylhovesko::Refusal;
 
@@ -73,7 +73,7 @@ fn count(trace: &[u8]) -> String {
 
 /// A speed of 0.1 km/h in km/h.
 pub fn kilometres_an_hour(tenths: u16) -> String {
-    format!("{}.{}", tenths / 10, tenths % 10)
+    decimal(tenths.into(), 1)
 }
 
 fn hexadecimal(bytes: &[u8]) -> String {

@@ -264,6 +264,19 @@ fn gears_in_other_forms() {
     }
 }
 
+/// FNV-1a, of 64 bits, over the picture of the gears of part1_normal.wtr for annex13.vehicle from before M-103, as the command of then wrote it.
+const BEFORE_M_103: u64 = 0x49bc_afa9_ba44_1ef1;
+
+/// Since M-103 other pictures are drawn with the same lines and words; that of the gears is the same to the byte.
+#[test]
+fn the_picture_of_the_gears_is_as_before_m_103() {
+    let svg = to_be_made("before.svg");
+    assert_eq!(run(&["gears", &of_demo("part1_normal.wtr"), &of_demo("annex13.vehicle"), "--svg", &svg]).code, Some(0));
+    let bytes = fs::read(svg).unwrap().into_iter();
+    let digest = bytes.fold(0xcbf2_9ce4_8422_2325, |digest, byte| (digest ^ u64::from(byte)).wrapping_mul(0x0100_0000_01b3));
+    assert_eq!(digest, BEFORE_M_103);
+}
+
 /// The value of an attribute of a picture's element.
 fn attribute<'a>(element: &'a str, name: &str) -> &'a str {
     element.split_once(&format!(" {name}=\"")).unwrap().1.split_once('"').unwrap().0

@@ -53,6 +53,21 @@ pub fn edited(name: &str, from: &str, to: &str) -> String {
     text.replacen(from, to, 1)
 }
 
+pub fn grouped(number: i64) -> String {
+    let digits = number.abs().to_string();
+    let groups: Vec<&str> = digits.as_bytes().rchunks(3).rev().map(|group| std::str::from_utf8(group).unwrap()).collect();
+    format!("{}{}", if number < 0 { "-" } else { "" }, groups.join(","))
+}
+
+/// The demo's sheet with another value, or none, at the first line of this key; and the number of that line.
+pub fn with_value(name: &str, key: &str, value: Option<&str>) -> (String, usize) {
+    let text = demo_text(name);
+    let at = text.lines().position(|line| line.starts_with(&format!("{key} = "))).unwrap();
+    let line = value.map(|value| format!("{key} = {value}"));
+    let lines = text.lines().enumerate().filter_map(|(i, old)| if i == at { line.as_deref() } else { Some(old) });
+    (lines.map(|line| format!("{line}\n")).collect(), at + 1)
+}
+
 /// `check` refuses the file with these words, and has these notes on it.
 pub fn refused_with_notes(name: &str, bytes: impl AsRef<[u8]>, words: &str, notes: &[&str]) {
     let path = stored(name, bytes);
