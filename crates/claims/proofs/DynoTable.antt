@@ -22,9 +22,9 @@ abbrev two : ℕ → Bool → List Line
 two mass good = massLine mass ∷ plain 17 good ∷ []
 
 -- what is made of a setting is accepted, and what is made of a refusal gives it
-module _ (Of : SettingAnswer → Outcome) (set : (a : SettingAnswer) → Of a ≡ settingOut a .outcome) (mass : ℕ) where
+module _ (Of : SettingAnswer → Outcome) (alike : (a : SettingAnswer) → Of a ≡ settingOut a .outcome) (mass : ℕ) where
   judged-first : (good : Bool) → Of (judgedOn (settingAnswer mass) good) ≡ firstOf (two mass good)
-  judged-first good = set (judgedOn (settingAnswer mass) good) ∙ go (inTable mass) refl good
+  judged-first good = alike (judgedOn (settingAnswer mass) good) ∙ go (inTable mass) refl good
     where
       go : (b : Bool) → inTable mass ≡ b → (good : Bool)
           → settingOut (judgedOn (settingAnswer mass) good) .outcome ≡ cond b (cond good (outcome 0 0 0 0) (outcome 17 0 0 0)) (outcome 16 0 0 0)
@@ -48,19 +48,19 @@ module _ (mass : ℕ) where
 
   pub force-exactly : (speed : ℕ) → Exactly (forceOut (forceAnswer mass speed) .outcome) (forceTable mass speed)
   unfolding forceAnswer
-  force-exactly speed = judged-exactly (λ a. forceOut (forceOn a speed) .outcome) set mass (leb speed 120)
+  force-exactly speed = judged-exactly (λ a. forceOut (forceOn a speed) .outcome) alike mass (leb speed 120)
     where
-      set : (a : SettingAnswer) → forceOut (forceOn a speed) .outcome ≡ settingOut a .outcome
-      set (Set s) = refl
-      set (Refused refusal) = refl
+      alike : (a : SettingAnswer) → forceOut (forceOn a speed) .outcome ≡ settingOut a .outcome
+      alike (Set s) = refl
+      alike (Refused refusal) = refl
 
   pub coast-exactly : (rotating speed : ℕ) → Exactly (coastOut (coastAnswer mass rotating speed) .outcome) (coastTable mass rotating speed)
   unfolding coastAnswer
-  coast-exactly rotating speed = judged-exactly (λ a. coastOut (coastOn a rotating speed) .outcome) set mass (leb rotating 50000 && within 5 120 speed)
+  coast-exactly rotating speed = judged-exactly (λ a. coastOut (coastOn a rotating speed) .outcome) alike mass (leb rotating 50000 && within 5 120 speed)
     where
-      set : (a : SettingAnswer) → coastOut (coastOn a rotating speed) .outcome ≡ settingOut a .outcome
-      set (Set s) = refl
-      set (Refused refusal) = refl
+      alike : (a : SettingAnswer) → coastOut (coastOn a rotating speed) .outcome ≡ settingOut a .outcome
+      alike (Set s) = refl
+      alike (Refused refusal) = refl
 
   pub sheet-exactly : (rotating : ℕ) → Exactly (settingOut (sheetAnswer mass rotating) .outcome) (sheetTable mass rotating)
   unfolding sheetAnswer

@@ -6,15 +6,15 @@ use Rattle.setting.specs.declared.SettingAnswer.{SettingAnswer}
 use Rattle.setting.specs.declared.SettingAnswer.the-variants.{Set, Refused}
 use Rattle.setting.specs.Annex3.{settingAnswer}
 
-abbrev set : ℕ → ℕ → ℕ → SettingAnswer
-set inertia resistance drag = Set (record { inertia = inertia; resistance = resistance; drag = drag })
+abbrev given : ℕ → ℕ → ℕ → SettingAnswer
+given inertia resistance drag = Set (record { inertia = inertia; resistance = resistance; drag = drag })
 
 -- "A mass of exactly 105.0 kg belongs to 100, and 105.1 to 110"; above 95, up to 505
 masses : (settingAnswer 950 ≡ Refused ReferenceMass)
-    × (settingAnswer 951 ≡ set 100 88 215)
-    × (settingAnswer 1050 ≡ set 100 88 215)
-    × (settingAnswer 1051 ≡ set 110 97 217)
-    × (settingAnswer 5050 ≡ set 500 440 275)
+    × (settingAnswer 951 ≡ given 100 88 215)
+    × (settingAnswer 1050 ≡ given 100 88 215)
+    × (settingAnswer 1051 ≡ given 110 97 217)
+    × (settingAnswer 5050 ≡ given 500 440 275)
     × (settingAnswer 5051 ≡ Refused ReferenceMass)
 unfolding settingAnswer
 masses = (refl, refl, refl, refl, refl, refl)
