@@ -1,12 +1,14 @@
 -- What `divDown` and `divUp` are, by their laws. Assumes nothing.
-use mathlib.Core.Path.{_≡_}
+use mathlib.Core.Path.{_≡_, sym}
 use mathlib.Core.Logic.{⊎-elim}
 use Prim.Native.Nat.{_+_, _*_, _/_, _≤_, _<_}
 use native.Mathlib.Nat.{mul-div-le, lt-mul-div-succ}
 use lib.IntN.{ℤ, pos, negsuc, negℤ, _+ℤ_, _-ℤ_, _*ℤ_}
 use lib.Signed.{_≤ℤ_, _<ℤ_}
 use Rattle.arith.proofs.Parts.{zs, add-parts, neg-parts, sub-parts, mul-parts}
-use Rattle.arith.proofs.Ring.{times, mul-neg, mul-cancel, mul-cancel-<, ≤-trans, <-≤, ≤-or-<}
+use Rattle.arith.proofs.Ring.{times, mul-add, mul-sub, mul-left-comm, mul-neg, mul-one, mul-mono, mul-mono-<, mul-cancel, mul-cancel-<}
+use Rattle.arith.proofs.Ring.{≤-trans, <-≤, ≤-or-<}
+use Rattle.arith.specs.declared.Ends.{Ends}
 use Rattle.arith.specs.Rounding.{divDown, divUp}
 
 le-lt : {a b c : ℤ} → a ≤ℤ b → b <ℤ c → a <ℤ c
@@ -79,3 +81,29 @@ down-up n d p = mul-cancel d p (≤-trans (down-le n d p) (up-ge n d p))
 
 pub up-down : (n d : ℤ) → pos 0 <ℤ d → divUp n d ≤ℤ (divDown n d +ℤ pos 1)
 up-down n d p = up-min n d (divDown n d +ℤ pos 1) p (<-≤ (down-lt n d p))
+
+-- a whole quotient is both
+module _ (n d q : ℤ) (p : pos 0 <ℤ d) (e : n ≡ d *ℤ q) where
+  pub down-whole : divDown n d ≡ q
+  down-whole = sym (down-unique n d q p (omega zs) (rw mul-add (omega (zs, mul-one d, add-parts (d *ℤ q) (d *ℤ pos 1)))))
+
+  pub up-whole : divUp n d ≡ q
+  up-whole = sym (up-unique n d q p (omega zs) (rw mul-sub (omega (zs, mul-one d, sub-parts (d *ℤ q) (d *ℤ pos 1)))))
+
+-- equal fractions round alike
+module _ (n d a c : ℤ) (p : pos 0 <ℤ d) (q : pos 0 <ℤ c) (e : c *ℤ n ≡ d *ℤ a) where
+  pub down-same : divDown n d ≡ divDown a c
+  down-same =
+      down-unique a c (divDown n d) q
+      (mul-cancel d p (rw (mul-left-comm d c (divDown n d), ← e) (mul-mono c (<-≤ q) (down-le n d p))))
+      (mul-cancel-< d p (rw (mul-left-comm d c (divDown n d +ℤ pos 1), ← e) (mul-mono-< c q (down-lt n d p))))
+
+  pub up-same : divUp n d ≡ divUp a c
+  up-same =
+      up-unique a c (divUp n d) q
+      (mul-cancel d p (rw (mul-left-comm d c (divUp n d), ← e) (mul-mono c (<-≤ q) (up-ge n d p))))
+      (mul-cancel-< d p (rw (mul-left-comm d c (divUp n d -ℤ pos 1), ← e) (mul-mono-< c q (up-lt n d p))))
+
+-- ends are equal by their two numbers
+pub same-ends : {a b c d : ℤ} → a ≡ b → c ≡ d → _≡_ {A = Ends} (record { lower = a; upper = c }) (record { lower = b; upper = d })
+same-ends p q = cc
