@@ -31,7 +31,7 @@ extern "C" {
  *
  *     if (ylhovesko_version() != YLHOVESKO_VERSION) return EXIT_FAILURE;
  */
-#define YLHOVESKO_VERSION 5u
+#define YLHOVESKO_VERSION 6u
 
 /* The version of the archive. */
 uint32_t ylhovesko_version(void);
@@ -150,7 +150,12 @@ uint32_t ylhovesko_chosen(const uint8_t *normal, size_t normal_length, const uin
 #define YLHOVESKO_OVER_RANGE 2u
 #define YLHOVESKO_NOT_FITTED 3u
 
-/* What the analyser sent for one gas. bits are those of its 32-bit float, whichever they are; over range and not fitted have none. */
+/*
+ * What the analyser sent for one gas. bits are those of its 32-bit float, whichever they are; over range and not fitted have none. It enters the figures
+ * as two ends, the float's exact value in 1/256 ppm rounded down and up, so that the ends of every figure hold the one that the float itself gives.
+ * Refusal 12 is for over range, not fitted and any other kind, and for a float that is below zero, infinite or not a number, or whose upper end is above
+ * 65,536 ppm; minus zero is zero.
+ */
 typedef struct {
     uint32_t kind;
     uint32_t bits;

@@ -1,5 +1,5 @@
 /* Whether an answer depends on the processor's float mode: each call is made in every rounding, with denormal results flushed to zero or not and with
-   denormal operands read as zero or not. Ends with 0 where all answers are those of document 01. */
+   denormal operands read as zero or not. Ends with 0 where all answers are those of document 01, readings as two ends. */
 #include <stdio.h>
 #include <string.h>
 
@@ -16,38 +16,44 @@ static void set_mode(uint32_t mode)
 struct reading_case {
     uint32_t kind;
     uint32_t bits;
-    long units; /* of 1/256 ppm */
+    long lower; /* in units of 1/256 ppm, or REFUSED */
+    long upper;
 };
 
 static const struct reading_case cases[] = {
     /* zeros, and the denormals with each sign */
-    {YLHOVESKO_PPM, 0x00000000, 0},
-    {YLHOVESKO_PPM, 0x80000000, 0},
-    {YLHOVESKO_PERCENT, 0x80000000, 0},
-    {YLHOVESKO_PPM, 0x00000001, 0},
-    {YLHOVESKO_PERCENT, 0x007fffff, 0},
-    {YLHOVESKO_PPM, 0x80000001, REFUSED},
-    {YLHOVESKO_PERCENT, 0x80000001, REFUSED},
-    {YLHOVESKO_PPM, 0x80400000, REFUSED},
-    {YLHOVESKO_PPM, 0x807fffff, REFUSED},
-    {YLHOVESKO_PERCENT, 0x807fffff, REFUSED},
-    {YLHOVESKO_PPM, 0x80800000, REFUSED},
-    /* on both sides of a half */
-    {YLHOVESKO_PPM, 0x3affffff, 0},
-    {YLHOVESKO_PPM, 0x3b000000, 1},
-    {YLHOVESKO_PPM, 0x3c1fffff, 2},
-    {YLHOVESKO_PPM, 0x3c200000, 3},
-    {YLHOVESKO_PERCENT, 0x3451b717, 0},
-    {YLHOVESKO_PERCENT, 0x3451b718, 1},
-    {YLHOVESKO_PERCENT, 0x39000000, 313},
+    {YLHOVESKO_PPM, 0x00000000, 0, 0},
+    {YLHOVESKO_PPM, 0x80000000, 0, 0},
+    {YLHOVESKO_PERCENT, 0x80000000, 0, 0},
+    {YLHOVESKO_PPM, 0x00000001, 0, 1},
+    {YLHOVESKO_PERCENT, 0x007fffff, 0, 1},
+    {YLHOVESKO_PPM, 0x80000001, REFUSED, REFUSED},
+    {YLHOVESKO_PERCENT, 0x80000001, REFUSED, REFUSED},
+    {YLHOVESKO_PPM, 0x80400000, REFUSED, REFUSED},
+    {YLHOVESKO_PPM, 0x807fffff, REFUSED, REFUSED},
+    {YLHOVESKO_PERCENT, 0x807fffff, REFUSED, REFUSED},
+    {YLHOVESKO_PPM, 0x80800000, REFUSED, REFUSED},
+    /* at a whole number of units, and on both sides of it */
+    {YLHOVESKO_PPM, 0x3b7fffff, 0, 1},
+    {YLHOVESKO_PPM, 0x3b800000, 1, 1},
+    {YLHOVESKO_PPM, 0x3b800001, 1, 2},
+    {YLHOVESKO_PERCENT, 0x3f7fffff, 2559999, 2560000},
+    {YLHOVESKO_PERCENT, 0x3f800000, 2560000, 2560000},
+    {YLHOVESKO_PERCENT, 0x3f800001, 2560000, 2560001},
+    /* around a half, where the nearest unit would change and the ends do not */
+    {YLHOVESKO_PPM, 0x3affffff, 0, 1},
+    {YLHOVESKO_PPM, 0x3b000000, 0, 1},
+    {YLHOVESKO_PERCENT, 0x3451b717, 0, 1},
+    {YLHOVESKO_PERCENT, 0x3451b718, 0, 1},
+    {YLHOVESKO_PERCENT, 0x39000000, 312, 313},
     /* the limit, what is infinite, what is not a number */
-    {YLHOVESKO_PPM, 0x47800000, 16777216},
-    {YLHOVESKO_PPM, 0x47800001, REFUSED},
-    {YLHOVESKO_PERCENT, 0x40d1b717, 16777216},
-    {YLHOVESKO_PERCENT, 0x40d1b718, REFUSED},
-    {YLHOVESKO_PPM, 0x7f800000, REFUSED},
-    {YLHOVESKO_PPM, 0x7f800001, REFUSED},
-    {YLHOVESKO_PERCENT, 0xffc01234, REFUSED},
+    {YLHOVESKO_PPM, 0x47800000, 16777216, 16777216},
+    {YLHOVESKO_PPM, 0x47800001, REFUSED, REFUSED},
+    {YLHOVESKO_PERCENT, 0x40d1b717, 16777215, 16777216},
+    {YLHOVESKO_PERCENT, 0x40d1b718, REFUSED, REFUSED},
+    {YLHOVESKO_PPM, 0x7f800000, REFUSED, REFUSED},
+    {YLHOVESKO_PPM, 0x7f800001, REFUSED, REFUSED},
+    {YLHOVESKO_PERCENT, 0xffc01234, REFUSED, REFUSED},
 };
 
 static ylhovesko_bag_sheet sheet;
@@ -77,9 +83,9 @@ static int is_told(const struct reading_case *c, const ylhovesko_test_result *r)
 {
     const ylhovesko_ends mass = r->part[1].mass.co;
 
-    if (c->units == REFUSED)
+    if (c->lower == REFUSED)
         return r->outcome.number == 12 && r->outcome.at == 2 && r->outcome.within == 2 && r->outcome.side == 1;
-    return r->outcome.number == 0 && mass.lower == c->units && mass.upper == c->units;
+    return r->outcome.number == 0 && mass.lower == c->lower && mass.upper == c->upper;
 }
 
 static int wrong_in(uint32_t mode)

@@ -2,7 +2,8 @@ pub mod Unique
 pub mod Checks
 pub mod Table
 pub mod Accepted
-pub mod Units
+mod Scales
+pub mod Readings
 pub mod Gases
 pub mod Stages
 pub mod Contained
@@ -17,3 +18,4 @@ pub mod Smoothing
 pub mod Finished
 pub mod Gears
 pub mod Widths
+pub mod Before

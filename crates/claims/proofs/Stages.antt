@@ -1,6 +1,6 @@
 -- One law a stage: where the exact values of what it is given are between their ends, its own exact value is between its ends. Assumes nothing.
 use mathlib.Core.Path.{_≡_, refl, ap}
-use Prim.Native.Nat.{ℕ, zero, suc, _+_, _-_, _*_, _≤_, _<_}
+use Prim.Native.Nat.{ℕ, zero, suc, _-_, _*_, _≤_, _<_}
 use native.Mathlib.Omega.{arith}
 use lib.IntN.{ℤ, pos, negsuc, _+ℤ_, _-ℤ_, _*ℤ_}
 use lib.Signed.{_≤ℤ_}
@@ -9,16 +9,17 @@ use Rattle.arith.specs.Stages.{exactly, dividedBy}
 use Rattle.arith.specs.Fraction.{Fraction, decimal, whole, _+ᶠ_, _-ᶠ_, _*ᶠ_, _/ᶠ_, Between}
 use Rattle.arith.proofs.Parts.{up, zs, add-parts, sub-parts, mul-parts}
 use Rattle.arith.proofs.Ring.{one-mul, mul-one, mul-pos, products}
-use Rattle.arith.proofs.Enclosure.{exactly-holds, sum-holds, difference-holds, scaled-holds, product-holds, divided-holds, same-value}
+use Rattle.arith.proofs.Enclosure.{exactly-holds, sum-holds, scaled-holds, product-holds, divided-holds, same-value}
 use Rattle.weigh.specs.declared.Weights.{Weights}
 use Rattle.stage.specs.Combination.{combinationOf}
-use Rattle.stage.specs.Part.{gtr, kelvinOf, volumeOf, concentrationOf, gasVolumeOf, massOf, vapourOf, dryOf, khOf, noxMassOf, rateOf}
+use Rattle.stage.specs.Part.{gtr, kelvinOf, volumeOf, gOf, concentrationOf, gasVolumeOf, massOf, vapourOf, dryOf, khOf, noxMassOf, rateOf}
 use Rattle.weigh.specs.Test.{weightsOf, weightedOf, fuelOf}
 use Rattle.stage.specs.Ranges.{VolumeRanges, KhRanges}
 use Rattle.stage.proofs.Steps.{kelvin-least, vapour-most, divisor-least}
 use Rattle.bag.specs.declared.Part.{Part}
 use Rattle.part.specs.Part.{volumeIn}
 use Rattle.claims.specs.Exact.{count, exactVolume, exactH, exactKh, percentOf}
+use Rattle.claims.proofs.Scales.{In, in-ones, of-ones, exactly-in, scaled-in, raised-in, finer-in, sum-in, difference-in, product-in, divided-in}
 
 -- ---- fractions of naturals
 abbrev ratio : ℕ → ℕ → Fraction
@@ -61,20 +62,25 @@ pub combination-holds :
 unfolding combinationOf
 combination-holds j k l a b c = sum-holds (sum-holds (scaled-holds a (pos j)) (scaled-holds b (pos k))) (scaled-holds c (pos l))
 
--- ---- concentration and mass
-pub concentration-holds :
-    {bag air g : Ends} {x y z : Fraction} (q : ℕ) → 0 < q → Between bag x → Between air y → Between g z →
-    Between (concentrationOf bag air g q) (count 16 *ᶠ (count q *ᶠ x -ᶠ y *ᶠ (count q -ᶠ z)) /ᶠ count q)
+-- ---- readings and G are in 1/256 ppm, concentrations in 1/4,096 ppm
+pub g-holds : {co2 co hc : Ends} {x y z : Fraction} (wc wh : ℕ) → In 256 co2 x → In 256 co y → In 256 hc z →
+    In 256 (gOf co2 co hc wc wh) (count 10 *ᶠ x +ᶠ count wc *ᶠ y +ᶠ count wh *ᶠ z)
+unfolding gOf combinationOf
+g-holds wc wh x y z = sum-in (sum-in (scaled-in 10 x) (scaled-in wc y)) (scaled-in wh z)
+
+pub concentration-holds : {bag air g : Ends} {x y z : Fraction} (q : ℕ) → 0 < q → In 256 bag x → In 256 air y → In 256 g z →
+    In 4096 (concentrationOf bag air g (256 * q)) ((count q *ᶠ x -ᶠ y *ᶠ (count q -ᶠ z)) /ᶠ count q)
 unfolding concentrationOf
 concentration-holds q h bag air g =
-    let from-air = product-holds air (difference-holds (exactly-holds (pos q)) g) in
-    divided-holds (scaled-holds (difference-holds (scaled-holds bag (pos q)) from-air) (pos 16)) (pos q) (omega zs)
+    let net = difference-in (raised-in 256 q bag) (product-in air (difference-in (exactly-in 256 q) g)) in
+    divided-in 256 4096 q (omega arith) h (finer-in 16 net)
 
-pub gas-volume-holds : {volume concentration : Ends} {v c : Fraction} → Between volume v → Between concentration c →
-    Between (gasVolumeOf volume concentration) (v *ᶠ c /ᶠ count 4096000)
+pub gas-volume-holds : {volume concentration : Ends} {v c : Fraction} → Between volume v → In 4096 concentration c →
+    Between (gasVolumeOf volume concentration) (v *ᶠ c /ᶠ count 1000)
 unfolding gasVolumeOf
-gas-volume-holds v c = divided-holds (product-holds v c) (pos 4096000) (omega zs)
+gas-volume-holds v c = of-ones (divided-in 4096 1 1000 (omega arith) (omega arith) (product-in (in-ones v) c))
 
+-- ---- mass
 pub mass-holds : {gas : Ends} {v : Fraction} (density : ℕ) → Between gas v → Between (massOf gas density) (count density *ᶠ v /ᶠ count 1000000)
 unfolding massOf
 mass-holds density v = divided-holds (scaled-holds v (pos density)) (pos 1000000) (omega zs)

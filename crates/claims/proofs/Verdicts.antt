@@ -5,7 +5,7 @@ use mathlib.Core.Logic.{⊎-elim}
 use mathlib.Core.Bool.{Bool, true, false, cond, false≢true}
 use Prim.Native.Nat.{ℕ}
 use lib.IntN.{ℤ, pos}
-use lib.Signed.{_≤ℤ_, _<ℤ_, leZ, ltZ, clashℤ, <ℤ-≤ℤ-trans}
+use lib.Signed.{_<ℤ_, leZ, ltZ, clashℤ, <ℤ-≤ℤ-trans}
 use Rattle.arith.specs.declared.Ends.{Ends}
 use Rattle.arith.specs.Fraction.{Fraction, Between}
 use Rattle.arith.proofs.Ring.{mul-mono, mul-mono-<, ≤-trans, <-≤, ≤-or-<}
@@ -20,7 +20,7 @@ use Rattle.emission.specs.declared.TestResult.{TestResult}
 use Rattle.emission.specs.declared.Answer.the-variants.{Result}
 use Rattle.emission.specs.Test.{partsIn, verdictsOf, resultOf, testAnswer}
 use Rattle.emission.proofs.Each.{verdict-at}
-use Rattle.claims.specs.Exact.{TestUnits, TestConverted}
+use Rattle.claims.specs.Exact.{TestPpm, TestMeasured}
 use Rattle.claims.specs.Statements.{Justified, JustifiedIn}
 use Rattle.claims.proofs.Accepted.{accepted-result}
 use Rattle.claims.proofs.Contained.{contained}
@@ -63,8 +63,8 @@ verdicts-in : (s : BagSheet) (r : TestResult) (readings : TestSides) →
 unfolding resultOf
 verdicts-in s r readings e = rw e
 
-pub verdicts : (s : BagSheet) (u : TestUnits) (r : TestResult) → testAnswer s ≡ Result r → TestConverted s u → (gas : Gas) → JustifiedIn s u r gas
+pub verdicts : (s : BagSheet) (x : TestPpm) (r : TestResult) → testAnswer s ≡ Result r → TestMeasured s x → (gas : Gas) → JustifiedIn s x r gas
 unfolding verdictsOf
-verdicts s u r e c gas =
+verdicts s x r e m gas =
     let a = accepted-result e in
-    rw (verdicts-in s r (a .readings) (a .result), verdict-at gas) (justified (contained s u r e c .weighted gas) (limitAt gas (s .limits)))
+    rw (verdicts-in s r (a .readings) (a .result), verdict-at gas) (justified (contained s x r e m .weighted gas) (limitAt gas (s .limits)))

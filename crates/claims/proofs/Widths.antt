@@ -1,22 +1,24 @@
 -- Demand 3, widths: where each part of the class covers at least 1,000 m and has at most 200 cubic metres, the weighted ends of HC, CO and CO2 are at
--- most 247 apart, and those of NOx at most 1,943 where both ends of its concentration are within 256 ppm of zero; asked are 300 and 2,000. Assumes nothing.
+-- most 8,962 apart, and those of NOx at most 25,817 where both ends of its concentration are within 256 ppm of zero; asked are 10,000 and 30,000
+-- (02, M-104). Assumes nothing.
 use mathlib.Core.Path.{_≡_, refl, ap}
 use mathlib.Core.Bool.{Bool, true, false, cond}
-use Prim.Native.Nat.{ℕ, suc, _+_, _*_, _≤_, _<_}
+use Prim.Native.Nat.{ℕ, suc, _+_, _*_, _≤_}
 use native.Mathlib.Nat.{mul-le-mul-right}
 use native.Mathlib.Omega.{arith}
 use lib.Dec.{eqb}
 use borrow.Author.Tests.{eqb-true}
-use lib.IntN.{ℤ, pos, negsuc, natAbs, _*ℤ_}
+use lib.IntN.{ℤ, pos, negsuc, _*ℤ_}
 use lib.Signed.{_≤ℤ_, _<ℤ_}
 use Rattle.arith.specs.declared.Ends.{Ends}
 use Rattle.arith.specs.Rounding.{divDown}
-use Rattle.arith.specs.Stages.{exactly, scaledBy, productOf, dividedBy}
+use Rattle.arith.specs.Stages.{exactly, scaledBy, dividedBy}
 use Rattle.arith.specs.Fitting.{Sized, Narrow}
 use Rattle.arith.proofs.Parts.{zs, mul-parts}
 use Rattle.arith.proofs.Size.{abs-parts, wider-size, product-size, scaled-size, divided-size}
 use Rattle.arith.proofs.Width.{exactly-narrow, wider-narrow, sum-narrow, difference-narrow, scaled-narrow, product-narrow, divided-narrow}
 use Rattle.reading.specs.Gas.{Gas, HC, CO, CO2, isNOx}
+use Rattle.refusal.specs.declared.Judged.the-variants.{Accepted}
 use Rattle.bag.specs.declared.Part.{Part}
 use Rattle.bag.specs.declared.Triple.{Triple}
 use Rattle.bag.specs.declared.BagSheet.{BagSheet}
@@ -26,10 +28,11 @@ use Rattle.bag.specs.Sound.{Tested}
 use Rattle.bag.proofs.Sound.{accepted-sound}
 use Rattle.weigh.specs.declared.Weights.{Weights}
 use Rattle.stage.specs.Combination.{combinationOf}
-use Rattle.stage.specs.Part.{gtr, kelvinOf, volumeOf, gOf, qOf, concentrationOf, gasVolumeOf, massOf, khOf, noxMassOf, rateOf}
+use Rattle.stage.specs.Part.{gtr, kelvinOf, volumeOf, gOf, concentrationOf, gasVolumeOf, massOf, khOf, noxMassOf, rateOf}
 use Rattle.weigh.specs.Test.{weightsOf, weightedOf}
-use Rattle.stage.specs.Ranges.{largestConcentration}
-use Rattle.stage.proofs.Steps.{kelvin-least, vapour-most, divisor-least}
+use Rattle.stage.specs.Ranges.{UpTo, ConcentrationRanges, largestReading, largestConcentration}
+use Rattle.stage.proofs.UpTo.{upTo-size}
+use Rattle.stage.proofs.Steps.{kelvin-least, rest-upTo, vapour-most, divisor-least}
 use Rattle.stage.proofs.Sizes.{kh-size}
 use Rattle.weigh.proofs.Sizes.{weights-whole}
 use Rattle.part.specs.Part.{endsAt, gIn, volumeIn, gasMass, massIn, ratesOf, partOf}
@@ -37,29 +40,20 @@ use Rattle.part.specs.Ranges.{PartRanges}
 use Rattle.part.specs.declared.Sides.{Sides}
 use Rattle.part.proofs.Each.{each-at}
 use Rattle.emission.specs.declared.TestSides.{TestSides}
-use Rattle.part.proofs.Sizes.{volume-ranges, concentration-sizes, kh-ranges}
+use Rattle.emission.specs.declared.Read.{Read}
+use Rattle.emission.specs.declared.Read.the-variants.{Units}
+use Rattle.part.proofs.Sizes.{volume-ranges, masses-ranges, concentration-sizes, kh-ranges}
 use Rattle.emission.specs.declared.TestResult.{TestResult}
 use Rattle.emission.specs.declared.Answer.the-variants.{Result}
-use Rattle.emission.specs.Test.{nothing, noPart, thirdPart, partsIn, weightedGases, resultOf, testAnswer}
+use Rattle.emission.specs.Test.{nothing, noPart, thirdPart, partsIn, weightedGases, resultOf, readIn, judgeLate, testAnswer}
 use Rattle.emission.specs.Ranges.{PartsRanges}
 use Rattle.emission.proofs.Ranges.{parts-ranges}
-use Rattle.claims.specs.Exact.{PartUnits, TestUnits, TestConverted}
 use Rattle.claims.specs.Statements.{concentrationIn, Ordinary, OrdinaryTest, widthOf, provenWidth}
 use Rattle.claims.proofs.Accepted.{accepted-result}
-use Rattle.claims.proofs.Units.{ReadAs, TestReadAs, test-read-as}
+use Rattle.claims.proofs.Readings.{NarrowSides, read-narrow, TestRead, test-read}
 use Rattle.claims.proofs.Gases.{dryMassIn, khIn, mass-at}
 
--- ---- exact numbers: what is made of them without a rounding has both ends the same
-own-size : (e : Ends) → Sized (natAbs (e .lower) + natAbs (e .upper)) e
-own-size e = record { lower = omega arith; upper = omega arith }
-
-scaled-exact : {a : Ends} (k : ℤ) → Narrow 0 a → Narrow 0 (scaledBy k a)
-scaled-exact k h = wider-narrow (omega arith) (scaled-narrow {m = natAbs k} k (omega arith) h)
-
-product-exact : {a b : Ends} → Narrow 0 a → Narrow 0 b → Narrow 0 (productOf a b)
-product-exact {a} {b} h k = wider-narrow (omega arith) (product-narrow (own-size a) (own-size b) h k)
-
--- divided once, they are one apart
+-- an exact number divided once is one apart
 quotient-narrow : {a : Ends} (d : ℤ) → pos 0 <ℤ d → Narrow 0 a → Narrow 1 (dividedBy a d)
 quotient-narrow (pos d) p h = divided-narrow {q = 0} d (omega zs) (wider-narrow (omega arith) h)
 quotient-narrow (negsuc d) p h = absurd (p .lt)
@@ -73,15 +67,19 @@ combination-narrow {w} j k l a b c = sum-narrow (sum-narrow (times j a) (times k
     times : {e : Ends} (n : ℕ) → Narrow w e → Narrow (n * w) (scaledBy (pos n) e)
     times n h = scaled-narrow {m = n} (pos n) (omega arith) h
 
-concentration-narrow : {bag air g : Ends} (q : ℕ) → 0 < q → Narrow 0 bag → Narrow 0 air → Narrow 0 g → Narrow 1 (concentrationOf bag air g q)
+-- Q is at least 256,000,000: bag Q is Q wide, air (Q − G) is 16,777,216 x 50 + Q, and 16 (2 Q + 838,860,800) is at most 85 Q
+concentration-narrow : {bag air g : Ends} {q : ℕ} → 256000000 ≤ q → ConcentrationRanges bag air g q → UpTo largestReading air →
+    Narrow 1 bag → Narrow 1 air → Narrow 50 g → Narrow 86 (concentrationOf bag air g q)
 unfolding concentrationOf
-concentration-narrow q h bag air g =
-    quotient-narrow (pos q) (omega zs)
-    (scaled-exact (pos 16) (difference-narrow (scaled-exact (pos q) bag) (product-exact air (difference-narrow (exactly-narrow (pos q)) g))))
+concentration-narrow {q = q} h r most bag air g =
+    let from-bag = scaled-narrow {m = q} (pos q) (omega arith) bag in
+    let from-air = product-narrow (upTo-size most) (upTo-size (rest-upTo r)) air (difference-narrow (exactly-narrow (pos q)) g) in
+    let net = scaled-narrow {m = 16} (pos 16) (omega arith) (difference-narrow from-bag from-air) in
+    divided-narrow {q = 85} q (omega arith) (wider-narrow (omega arith) net)
 
 gas-volume-narrow :
-    {volume concentration : Ends} (c w : ℕ) → 200000000 + c ≤ 4096000 * w →
-    Sized 200000000 volume → Sized c concentration → Narrow 1 volume → Narrow 1 concentration → Narrow (suc w) (gasVolumeOf volume concentration)
+    {volume concentration : Ends} (c w : ℕ) → 200000000 * 86 + c ≤ 4096000 * w →
+    Sized 200000000 volume → Sized c concentration → Narrow 1 volume → Narrow 86 concentration → Narrow (suc w) (gasVolumeOf volume concentration)
 unfolding gasVolumeOf
 gas-volume-narrow c w room sv sc v k = divided-narrow 4096000 (omega arith) (wider-narrow (omega arith) (product-narrow sv sc v k))
 
@@ -107,22 +105,9 @@ weighted-narrow {w} weights e a b c =
 -- ---- a part
 -- of the mass, of NOx and of another gas
 abbrev massWidth : Bool → ℕ
-massWidth nox = cond nox 1941 245
+massWidth nox = cond nox 25815 8960
 
--- the concentration from what was read
-abbrev concentrationOn : Gas → Triple → Sides → Ends
-concentrationOn gas t sides = concentrationOf (endsAt gas (sides .bag)) (endsAt gas (sides .air)) (gIn t (sides .bag)) (qOf (t .d))
-
-module _ {t : Triple} {p : Part} {sides : Sides} {u : PartUnits} (read : ReadAs sides u) (r : PartRanges t p sides) (d : 100 ≤ t .d) where
-  bag-narrow : (gas : Gas) → Narrow 0 (endsAt gas (sides .bag))
-  bag-narrow gas = rw (read .bag gas) (exactly-narrow (u .bag gas))
-
-  air-narrow : (gas : Gas) → Narrow 0 (endsAt gas (sides .air))
-  air-narrow gas = rw (read .air gas) (exactly-narrow (u .air gas))
-
-  concentration-is : (gas : Gas) → concentrationOn gas t sides ≡ concentrationIn gas t u
-  concentration-is gas = rw (read .bag gas, read .air gas, read .bag CO2, read .bag CO, read .bag HC)
-
+module _ {t : Triple} {p : Part} {sides : Sides} (read : NarrowSides sides) (r : PartRanges t p sides) (d : 100 ≤ t .d) where
   volume-narrow : Narrow 1 (volumeIn p)
   unfolding volumeOf
   volume-narrow =
@@ -141,18 +126,23 @@ module _ {t : Triple} {p : Part} {sides : Sides} {u : PartUnits} (read : ReadAs 
       let l = volume-least in
       record { lower = omega (zs, abs-parts (volumeIn p .lower)); upper = omega (zs, abs-parts (volumeIn p .upper)) }
 
-  concentration-narrow-in : (gas : Gas) → Narrow 1 (concentrationOn gas t sides)
+  -- 10 + wc + wh is at most 50
+  g-narrow : Narrow 50 (gIn t (sides .bag))
   unfolding gOf
-  concentration-narrow-in gas =
-      concentration-narrow (qOf (t .d)) (omega arith) (bag-narrow gas) (air-narrow gas)
-      (wider-narrow (omega arith) (combination-narrow 10 (t .wc) (t .wh) (bag-narrow CO2) (bag-narrow CO) (bag-narrow HC)))
+  g-narrow =
+      wider-narrow (omega (arith, r .triple-ranged .wc .1, r .triple-ranged .wh .1))
+      (combination-narrow 10 (t .wc) (t .wh) (read .bag CO2) (read .bag CO) (read .bag HC))
 
-  -- 200,000,000 + 268,435,456 is at most 4,096,000 x 115, and 2,100,000 x 116 at most 1,000,000 x 244
-  dry-mass : (gas : Gas) → Ordinary gas t p u → Narrow 245 (dryMassIn gas t p sides)
+  concentration-narrow-in : (gas : Gas) → Narrow 86 (concentrationIn gas t sides)
+  concentration-narrow-in gas =
+      concentration-narrow (omega arith) (masses-ranges r gas .ranges) (r .air-sizes gas) (read .bag gas) (read .air gas) g-narrow
+
+  -- 200,000,000 x 86 + 268,435,456 is at most 4,096,000 x 4,265, and 2,100,000 x 4,266 at most 1,000,000 x 8,959
+  dry-mass : (gas : Gas) → Ordinary gas t p sides → Narrow 8960 (dryMassIn gas t p sides)
   unfolding gasMass
   dry-mass gas o =
-      mass-narrow (densityAt gas (p .density)) 116 244 (r .ranged .density gas .1) (omega arith)
-      (gas-volume-narrow largestConcentration 115 (omega arith) (volume-sized (o .volume)) (concentration-sizes r gas)
+      mass-narrow (densityAt gas (p .density)) 4266 8959 (r .ranged .density gas .1) (omega arith)
+      (gas-volume-narrow largestConcentration 4265 (omega arith) (volume-sized (o .volume)) (concentration-sizes r gas)
       volume-narrow (concentration-narrow-in gas))
 
   kh-narrow : Narrow 1 (khOf (p .humidity) (p .saturation) (p .barometer))
@@ -164,10 +154,10 @@ module _ {t : Triple} {p : Part} {sides : Sides} {u : PartUnits} (read : ReadAs 
       let low = k .ranges .low in
       quotient-narrow _ (omega zs) (exactly-narrow _)
 
-  -- within 256 ppm of zero the gas volume is at most 51,200,000 and its ends 51 apart, the mass 107,520,000 and 109 apart; and
-  -- 107,520,000 + 179,536 x 109 is at most 65,536 x 1,940
-  nox-mass : (gas : Gas) → Ordinary gas t p u → Sized 1048576 (concentrationOn gas t sides) →
-      Narrow 1941 (noxMassOf (dryMassIn gas t p sides) (khIn p))
+  -- within 256 ppm of zero the gas volume is at most 51,200,000 and its ends 4,201 apart, the mass 107,520,000 and 8,824 apart; and
+  -- 107,520,000 + 179,536 x 8,824 is at most 65,536 x 25,814
+  nox-mass : (gas : Gas) → Ordinary gas t p sides → Sized 1048576 (concentrationIn gas t sides) →
+      Narrow 25815 (noxMassOf (dryMassIn gas t p sides) (khIn p))
   unfolding noxMassOf gasMass massOf gasVolumeOf
   nox-mass gas o c =
       let v = volume-sized (o .volume) in
@@ -175,39 +165,40 @@ module _ {t : Triple} {p : Part} {sides : Sides} {u : PartUnits} (read : ReadAs 
       let most = r .ranged .density gas .1 in
       let gas-size = divided-size {q = 51200000} 4096000 (omega arith) (wider-size (omega arith) (product-size v c)) in
       let mass-size = divided-size {q = 107520000} 1000000 (omega arith) (wider-size (omega arith) (scaled-size (pos d) most gas-size)) in
-      let gas-volume = gas-volume-narrow 1048576 50 (omega arith) v c volume-narrow (concentration-narrow-in gas) in
-      let mass = mass-narrow d 51 108 most (omega arith) gas-volume in
-      divided-narrow {q = 1940} 65536 (omega arith) (wider-narrow (omega arith) (product-narrow mass-size (kh-size (kh-ranges r)) mass kh-narrow))
+      let gas-volume = gas-volume-narrow 1048576 4200 (omega arith) v c volume-narrow (concentration-narrow-in gas) in
+      let mass = mass-narrow d 4201 8823 most (omega arith) gas-volume in
+      divided-narrow {q = 25814} 65536 (omega arith) (wider-narrow (omega arith) (product-narrow mass-size (kh-size (kh-ranges r)) mass kh-narrow))
 
-  mass-in : (gas : Gas) → Ordinary gas t p u → Narrow (massWidth (isNOx gas)) (endsAt gas (massIn t p sides))
+  mass-in : (gas : Gas) → Ordinary gas t p sides → Narrow (massWidth (isNOx gas)) (endsAt gas (massIn t p sides))
   mass-in gas o = rw (mass-at gas) (go (isNOx gas) (o .nox))
     where
-      go : (b : Bool) → (b ≡ true → Sized 1048576 (concentrationIn gas t u)) →
+      go : (b : Bool) → (b ≡ true → Sized 1048576 (concentrationIn gas t sides)) →
           Narrow (massWidth b) (cond b (noxMassOf (dryMassIn gas t p sides) (khIn p)) (dryMassIn gas t p sides))
-      go true c = nox-mass gas o (rw (concentration-is gas) (c refl))
+      go true c = nox-mass gas o (c refl)
       go false c = dry-mass gas o
 
-  rate-in : (gas : Gas) → Ordinary gas t p u → Narrow (suc (massWidth (isNOx gas))) (endsAt gas (partOf t p sides .rate))
+  rate-in : (gas : Gas) → Ordinary gas t p sides → Narrow (suc (massWidth (isNOx gas))) (endsAt gas (partOf t p sides .rate))
   unfolding partOf ratesOf
   rate-in gas o = rw (each-at gas) (rate-narrow (p .distance) (o .distance) (mass-in gas o))
 
 -- ---- the test
-module _ {s : BagSheet} {readings : TestSides} {u : TestUnits} (t : Tested s) (read : TestReadAs s readings u) (r : PartsRanges s readings) where
-  third-in : (gas : Gas) → OrdinaryTest gas s u → Narrow (suc (massWidth (isNOx gas))) (endsAt gas (thirdPart s (readings .third) .rate))
+module _ {s : BagSheet} {readings : TestSides} (t : Tested s) (read : TestRead s readings) (r : PartsRanges s readings) where
+  third-in : (gas : Gas) → OrdinaryTest gas s readings → Narrow (suc (massWidth (isNOx gas))) (endsAt gas (thirdPart s (readings .third) .rate))
   unfolding thirdPart nothing
   third-in gas o = go (eqb (s .class) 3) (eqb-true (s .class) 3)
     where
       go : (b : Bool) → (b ≡ true → s .class ≡ 3) →
           Narrow (suc (massWidth (isNOx gas))) (endsAt gas (cond b (partOf (s .triple) (s .third) (readings .third)) noPart .rate))
-      go true f = rate-in (read .third (f refl)) (r .third (f refl)) (t .triple .d .0) gas (o .third (f refl))
+      go true f = rate-in (read-narrow 3 (s .third) (read .third (f refl))) (r .third (f refl)) (t .triple .d .0) gas (o .third (f refl))
       go false f = rw (each-at gas) (wider-narrow (omega arith) (exactly-narrow (pos 0)))
 
-  weighted-in : (gas : Gas) → OrdinaryTest gas s u → Narrow (suc (suc (massWidth (isNOx gas)))) (endsAt gas (resultOf s (partsIn s readings) .weighted))
+  weighted-in : (gas : Gas) → OrdinaryTest gas s readings → Narrow (suc (suc (massWidth (isNOx gas)))) (endsAt gas (resultOf s (partsIn s readings) .weighted))
   unfolding resultOf partsIn weightedGases
   weighted-in gas o =
       rw (each-at gas)
       (weighted-narrow (weightsOf (s .class)) (weights-whole (s .class) (t .class .0) (t .class .1))
-      (rate-in (read .first) (r .first) (t .triple .d .0) gas (o .first)) (rate-in (read .second) (r .second) (t .triple .d .0) gas (o .second))
+      (rate-in (read-narrow 1 (s .first) (read .first)) (r .first) (t .triple .d .0) gas (o .first))
+      (rate-in (read-narrow 2 (s .second) (read .second)) (r .second) (t .triple .d .0) gas (o .second))
       (third-in gas o))
 
 -- each of the two stages after the mass adds one
@@ -220,13 +211,18 @@ asked : (nox : Bool) → provenWidth nox ≤ widthOf nox
 asked true = omega arith
 asked false = omega arith
 
-module _ (s : BagSheet) (u : TestUnits) (r : TestResult) (e : testAnswer s ≡ Result r) (c : TestConverted s u) where
-  pub proven-widths : (gas : Gas) → OrdinaryTest gas s u → Narrow (provenWidth (isNOx gas)) (endsAt gas (r .weighted))
+same-readings : {x : Read} {a b : TestSides} → x ≡ Units a → x ≡ Units b → a ≡ b
+same-readings p q = cc
+
+module _ (s : BagSheet) (readings : TestSides) (r : TestResult) (e : testAnswer s ≡ Result r) (read : readIn s ≡ Units readings) where
+  pub proven-widths : (gas : Gas) → OrdinaryTest gas s readings → Narrow (provenWidth (isNOx gas)) (endsAt gas (r .weighted))
   proven-widths gas o =
       let a = accepted-result e in
       let sound = accepted-sound s (a .sheet) in
-      let ranges = parts-ranges sound (a .read) (a .late) in
-      rw (a .result) (wider-narrow (two-more (isNOx gas)) (weighted-in (sound .tested) (test-read-as (a .read) c) ranges gas o))
+      let same : a .readings ≡ readings = same-readings (a .read) read in
+      let late : judgeLate s readings ≡ Accepted = rw same at (a .late) in
+      let weighted = weighted-in (sound .tested) (test-read read) (parts-ranges sound read late) gas o in
+      rw (a .result, same) (wider-narrow (two-more (isNOx gas)) weighted)
 
-  pub widths : (gas : Gas) → OrdinaryTest gas s u → Narrow (widthOf (isNOx gas)) (endsAt gas (r .weighted))
+  pub widths : (gas : Gas) → OrdinaryTest gas s readings → Narrow (widthOf (isNOx gas)) (endsAt gas (r .weighted))
   widths gas o = wider-narrow (asked (isNOx gas)) (proven-widths gas o)

@@ -25,7 +25,7 @@ ghost use Rattle.emission.specs.Test.{readThird, readIn, dilution, humid
 ghost use Rattle.emission.specs.Test.{weightedGases, verdictsOf, fuelIn, resultOf, testAnswer};
 ghost use Rattle.emission.specs.Ranges.{LateRanges, PartsRanges, RateSizes, WeighRanges, ResultRanges};
 
-// The readings of a test: of each part, in units.
+// The readings of a test: of each part, as ends in units of 1/256 ppm.
 pub struct TestSides {
     pub first: Sides,
     pub second: Sides,

@@ -1,4 +1,4 @@
--- What was read: where a part has units, each message has them; and it is refused exactly as its list of checks says. Assumes nothing.
+-- What was read: where a part has ends, each message has them; and it is refused exactly as its list of checks says. Assumes nothing.
 use mathlib.Core.Path.{_≡_, refl}
 use mathlib.Core.Bool.{false≢true}
 use Prim.Native.Nat.{ℕ}
@@ -31,7 +31,7 @@ took-gas : (g : GasRead) (next : GasSides → PartRead) {sides : Sides} → onGa
 took-gas (gasRead.Units both) next e = record { held = both; taken = refl; then = e }
 took-gas (gasRead.Refused refusal) next e = absurd (false≢true (cc))
 
--- ---- units
+-- ---- ends
 pub record Held (p : Part) (gas : Gas) (inBag inAir : Ends) : Type 0 where
   pub bag : unitsOf (messageAt gas (p .bag)) ≡ worth.Units inBag
   pub air : unitsOf (messageAt gas (p .air)) ≡ worth.Units inAir
@@ -48,7 +48,7 @@ gas-held part p gas e =
     let held = both-held part (gasNumber gas) (unitsOf (messageAt gas (p .bag))) (unitsOf (messageAt gas (p .air))) e in
     record { bag = held .0; air = held .1 }
 
--- where a part has units, each of its messages has them
+-- where a part has ends, each of its messages has them
 pub units-held : (part : ℕ) (p : Part) (sides : Sides) → readPart part p ≡ partRead.Units sides →
     (gas : Gas) → Held p gas (endsAt gas (sides .bag)) (endsAt gas (sides .air))
 unfolding readPart sidesFrom each

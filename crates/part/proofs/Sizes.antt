@@ -16,7 +16,7 @@ use Rattle.bag.specs.declared.Triple.{Triple}
 use Rattle.stage.specs.Part.{qOf, concentrationOf, noxMassOf}
 use Rattle.stage.specs.Ranges.{UpTo, VolumeRanges, GRanges, KhRanges}
 use Rattle.stage.specs.Ranges.{largestReading, largestConcentration, largestMass, largestKh, largestNoxMass}
-use Rattle.stage.proofs.UpTo.{upTo-size, exactly-upTo}
+use Rattle.stage.proofs.UpTo.{upTo-size}
 use Rattle.stage.proofs.Sizes.{volume-size, g-upTo, concentration-size, gas-volume-size, mass-size, kh-size, nox-mass-size}
 use Rattle.part.specs.declared.Sides.{Sides}
 use Rattle.part.specs.declared.PartRead.{PartRead}
@@ -29,7 +29,7 @@ use Rattle.part.specs.Ranges.{ReadingSizes, GasRanges, MassesRanges, Rat
 
 -- ---- readings
 reading-upTo : (message : Message) {ends : Ends} → unitsOf message ≡ Units ends → UpTo largestReading ends
-reading-upTo message e = let u = usable message e in rw (u .exact) (exactly-upTo (u .units) (u .limit))
+reading-upTo message e = let u = usable message e in record { least = u .least; ordered = u .narrow .ordered; most = u .limit }
 
 module _ (part : ℕ) (p : Part) {sides : Sides} (e : readPart part p ≡ PartRead.Units sides) where
   pub bag-sizes : ReadingSizes (sides .bag)

@@ -23,7 +23,7 @@ each f = record { hc = f HC; co = f CO; nox = f NOx; co2 = f CO2 }
 abbrev pub gIn : Triple → Gases → Ends
 gIn triple bag = gOf (bag .co2) (bag .co) (bag .hc) (triple .wc) (triple .wh)
 
--- "G must be below Q"
+-- "G must be below Q", "judged on the upper end of G" (02, M-104)
 abbrev pub diluted : Triple → Gases → Bool
 diluted triple bag = dilutionGood (gIn triple bag) (qOf (triple .d))
 

@@ -16,7 +16,7 @@ use Rattle.part.specs.declared.Gases.{Gases}
 use Rattle.part.specs.declared.Sides.{Sides}
 use Rattle.part.specs.Part.{endsAt, diluted, dryEnough}
 
--- readings in units of 1/256 ppm
+-- the ends of readings, in units of 1/256 ppm
 abbrev pub ReadingSizes : Gases → Type 0
 ReadingSizes g = (gas : Gas) → UpTo largestReading (endsAt gas g)
 

@@ -1,4 +1,4 @@
--- What a pattern taken apart says of its float: its size, or that it has none; and so its units, one law for each way through `in_units`.
+-- What a pattern taken apart says of its float: its size, or that it has none; and so its ends in units, one law for each way through `in_units`.
 -- Assumes nothing.
 use mathlib.Core.Path.{_≡_, refl, sym, ap, _∙_, subst}
 use mathlib.Core.Logic.{inl, inr}
@@ -15,8 +15,8 @@ use borrow.Author.Tests.{ltb-true, ltb-false, leb-true, le-leb, eqb-true, eq-eqb
 use Rattle.reading.specs.declared.Binary.{Binary}
 use Rattle.reading.specs.declared.Worth.the-variants.{Unusable}
 use Rattle.reading.specs.Pattern.{exponentField, trailing, apart, binaryOf, over}
-use Rattle.reading.specs.Units.{none, exactValue, nearest, upToLimit, inUnits}
-use Rattle.reading.proofs.Scaling.{nearestOf, nearest-of, nearest-same, of-size, below-zero, far, past}
+use Rattle.reading.specs.Units.{Exact, none, exactValue, times, outward, upToLimit, rounded}
+use Rattle.reading.proofs.Scaling.{ratio, outward-same, cross-times, of-size, below-zero, far, past}
 
 -- ---- what the fields say
 -- the size of a float that has one, in 2⁻¹⁴⁹
@@ -131,25 +131,25 @@ module _ (bits : ℕ) where
       same = le-antisymm (ltb-false (2 ^ 31) bits (sym past-minus-zero ∙ h)) (leb-true (2 ^ 31) bits e)
 
   -- ---- the ways through `in_units`
-  pub negative : (k : ℕ) → bits < 2 ^ 32 → b .negative ≡ true → Unusable ≡ inUnits (pos k) (exactValue x)
-  negative k w n = elim (eq-or-lt-of-le (reads .most)) [
-    | inl e ↦ sym (ap (inUnits (pos k)) (reads .unsized e))
+  pub negative : (k : ℕ) → 256 ≤ k → bits < 2 ^ 32 → b .negative ≡ true → Unusable ≡ rounded (times (pos k) (exactValue x))
+  negative k K w n = elim (eq-or-lt-of-le (reads .most)) [
+    | inl e ↦ sym (ap (λ (v : Exact). rounded (times (pos k) v)) (reads .unsized e))
     | inr l ↦
-        below-zero k x (size b) (2 ^ 149) (mul-pos (not-zero w n) (pow-pos (b .exponent - 1)))
+        below-zero k x (size b) (2 ^ 149) (omega arith) (mul-pos (not-zero w n) (pow-pos (b .exponent - 1)))
         (subst (λ (s : Bool). HasValue x s (size b) (2 ^ 149)) (le-leb (2 ^ 31) bits (le-of-lt (has-minus n))) (reads .sized l))
   ]
 
   at-size : (k : ℕ) → b .negative ≡ false → b .exponent < 255
-      → inUnits (pos k) (exactValue x) ≡ upToLimit (pos (nearestOf (k * size b) (2 ^ 149)))
+      → rounded (times (pos k) (exactValue x)) ≡ upToLimit (outward (ratio (k * size b) (2 ^ 149)))
   at-size k n l = of-size k x s (size b) (2 ^ 149) (pow-pos 149) zero (reads .sized l)
     where
       zero : s ≡ true → size b ≡ 0
       zero e = ap (λ (m : ℕ). m * 2 ^ (b .exponent - 1)) (minus-zero n e) ∙ zero-mul (2 ^ (b .exponent - 1))
 
-  pub too-large : (k : ℕ) → 256 ≤ k → b .negative ≡ false → 144 ≤ b .exponent → Unusable ≡ inUnits (pos k) (exactValue x)
+  pub too-large : (k : ℕ) → 256 ≤ k → b .negative ≡ false → 144 ≤ b .exponent → Unusable ≡ rounded (times (pos k) (exactValue x))
   too-large k K n h = elim (eq-or-lt-of-le (reads .most)) [
-    | inl e ↦ sym (ap (inUnits (pos k)) (reads .unsized e))
-    | inr l ↦ past (nearestOf (k * size b) (2 ^ 149)) (far k (size b) (2 ^ 149) (pow-pos 149) K large) ∙ sym (at-size k n l)
+    | inl e ↦ sym (ap (λ (v : Exact). rounded (times (pos k) v)) (reads .unsized e))
+    | inr l ↦ past (outward (ratio (k * size b) (2 ^ 149))) (far k (size b) (2 ^ 149) (pow-pos 149) K large) ∙ sym (at-size k n l)
   ]
     where
       under : (e : ℕ) → 144 ≤ e → 143 ≤ e - 1
@@ -162,9 +162,8 @@ module _ (bits : ℕ) where
       large = le-trans (lit≤ tt) (mul-le-mul (reads .leading (above (b .exponent) h)) (pow-mono (under (b .exponent) h)))
 
   pub in-range : (k : ℕ) → b .negative ≡ false → b .exponent < 144
-      → upToLimit (nearest (over (k * b .significand) (150 - b .exponent))) ≡ inUnits (pos k) (exactValue x)
-  in-range k n h =
-      ap upToLimit (nearest-of (k * b .significand) (2 ^ (150 - b .exponent)) ∙ ap pos same) ∙ sym (at-size k n (under (b .exponent) h))
+      → upToLimit (outward (over (k * b .significand) (150 - b .exponent))) ≡ rounded (times (pos k) (exactValue x))
+  in-range k n h = ap upToLimit same ∙ sym (at-size k n (under (b .exponent) h))
     where
       under : (e : ℕ) → e < 144 → e < 255
       under e h = omega arith
@@ -178,5 +177,7 @@ module _ (bits : ℕ) where
           ∙ ap (λ (n : ℕ). b .significand * n) (pow-add 2 (b .exponent - 1) (150 - b .exponent))
           ∙ sym (mul-assoc (b .significand) (2 ^ (b .exponent - 1)) (2 ^ (150 - b .exponent)))
 
-      same : nearestOf (k * b .significand) (2 ^ (150 - b .exponent)) ≡ nearestOf (k * size b) (2 ^ 149)
-      same = nearest-same k (b .significand) (2 ^ (150 - b .exponent)) (size b) (2 ^ 149) (pow-pos (150 - b .exponent)) (pow-pos 149) cross
+      same : outward (over (k * b .significand) (150 - b .exponent)) ≡ outward (ratio (k * size b) (2 ^ 149))
+      same =
+          outward-same (k * b .significand) (2 ^ (150 - b .exponent)) (k * size b) (2 ^ 149) (pow-pos (150 - b .exponent)) (pow-pos 149)
+          (cross-times k (b .significand) (2 ^ (150 - b .exponent)) (size b) (2 ^ 149) cross)

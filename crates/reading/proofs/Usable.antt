@@ -1,45 +1,63 @@
--- What a usable reading is known to be: one whole number of units, from 0 to 16,777,216. Assumes nothing.
-use mathlib.Core.Path.{_≡_, sym, _∙_}
-use mathlib.Core.Logic.{inl, inr}
-use Prim.Native.Nat.{ℕ, _*_, _≤_}
-use native.Mathlib.Nat.{eq-zero-or-pos}
+-- What a usable reading is known to be: ends at most one unit apart, from 0 to 16,777,216, with the float's exact value between them. Assumes
+-- nothing.
+use mathlib.Core.Path.{_≡_, refl}
+use Prim.Native.Nat.{ℕ}
 use mathlib.Core.Bool.{Bool, true, false, cond, false≢true}
-use lib.IntN.{pos}
-use lib.Dec.{T, leb, leb→le}
-use lib.Ieee.{Float, nan, inf, fin, up, down}
+use lib.IntN.{pos, *ℤ-zero}
+use lib.Signed.{_≤ℤ_, _<ℤ_, leZ, ltZ}
+use lib.Ieee.{Float, nan, inf, fin}
+use lib.Ieee.Fits.{down-pos}
 use Rattle.arith.specs.declared.Ends.{Ends}
-use Rattle.arith.specs.Stages.{exactly}
+use Rattle.arith.specs.Fraction.{Fraction, Between}
+use Rattle.arith.specs.Fitting.{Narrow}
+use Rattle.arith.proofs.Parts.{zs}
+use Rattle.arith.proofs.Machine.{lt-false, le-true}
+use Rattle.arith.proofs.Rounding.{down-le, down-max, up-ge, down-up, up-down}
 use Rattle.reading.specs.declared.Message.{Message}
 use Rattle.reading.specs.declared.Message.the-variants.{Ppm, Percent, OverRange, NotFitted}
 use Rattle.reading.specs.declared.Worth.the-variants.{Units, Unusable}
-use Rattle.reading.specs.Units.{exactValue, mostUnits, upToLimit, inUnits, unitsOf}
-use Rattle.reading.proofs.Scaling.{nearestOf, plain, minus}
+use Rattle.reading.specs.Units.{Exact, value, exactValue, times, exactUnits, outward, mostUnits, rounded, unitsOf}
 
-pub record Usable (e : Ends) : Type 0 where
-  pub units : ℕ
-  pub limit : units ≤ mostUnits
-  pub exact : e ≡ exactly (pos units)
+pub record Usable (x : Exact) (e : Ends) : Type 0 where
+  pub exact : Fraction
+  pub is : x ≡ value exact
+  pub holds : Between e exact
+  pub least : pos 0 ≤ℤ e .lower
+  pub limit : e .upper ≤ℤ pos mostUnits
+  pub narrow : Narrow 1 e
 
--- the limit was kept
-limited : (u : ℕ) {e : Ends} → upToLimit (pos u) ≡ Units e → Usable e
-limited u {e} h = go (leb u mostUnits) (leb→le u mostUnits) h
-  where
-    go : (t : Bool) → (T t → u ≤ mostUnits) → cond t (Units (exactly (pos u))) Unusable ≡ Units e → Usable e
-    go true f h = record { units = u; limit = f tt; exact = cc }
-    go false f h = absurd (false≢true (cc))
+same-units : {a b : Ends} → Units a ≡ Units b → a ≡ b
+same-units p = cc
 
--- a minus is left to minus zero alone
-at-float : (k : ℕ) (x : Float) {e : Ends} → inUnits (pos k) (exactValue x) ≡ Units e → Usable e
+-- a fraction that passed both tests
+module _ (q : Fraction) (p : pos 0 <ℤ q .den) where
+  passed : pos 0 ≤ℤ q .num → outward q .upper ≤ℤ pos mostUnits → Usable (value q) (outward q)
+  unfolding outward
+  passed h l =
+      record {
+        exact = q;
+        is = refl;
+        holds = record { positive = p; above = down-le (q .num) (q .den) p; below = up-ge (q .num) (q .den) p };
+        least = down-max (q .num) (q .den) (pos 0) p (rw *ℤ-zero h);
+        limit = l;
+        narrow = record { ordered = down-up (q .num) (q .den) p; apart = up-down (q .num) (q .den) p };
+      }
+
+  at-fraction : {e : Ends} → rounded (value q) ≡ Units e → Usable (value q) e
+  at-fraction {e} h = go (ltZ (q .num) (pos 0)) (leZ (outward q .upper) (pos mostUnits)) refl refl h
+    where
+      go : (t u : Bool) → ltZ (q .num) (pos 0) ≡ t → leZ (outward q .upper) (pos mostUnits) ≡ u →
+          cond t Unusable (cond u (Units (outward q)) Unusable) ≡ Units e → Usable (value q) e
+      go true u x y h = absurd (false≢true (cc))
+      go false true x y h = rw (← same-units h) (passed (lt-false x) (le-true y))
+      go false false x y h = absurd (false≢true (cc))
+
+at-float : (k : ℕ) (x : Float) {e : Ends} → rounded (times (pos k) (exactValue x)) ≡ Units e → Usable (times (pos k) (exactValue x)) e
 at-float k nan h = absurd (false≢true (cc))
 at-float k (inf s) h = absurd (false≢true (cc))
-at-float k (fin false m e) h = limited (nearestOf (k * (m * up e)) (down e)) (sym (plain k false m e (λ t. absurd t)) ∙ h)
-at-float k (fin true m e) h =
-    elim (eq-zero-or-pos (m * up e)) [
-      | inl z ↦ limited (nearestOf (k * (m * up e)) (down e)) (sym (plain k true m e (λ t. z)) ∙ h)
-      | inr p ↦ let below = minus (m * up e) (pos k) (pos (down e)) p in absurd (false≢true (cc))
-    ]
+at-float k (fin s m e) h = at-fraction _ (let d = down-pos e in omega zs) h
 
-pub usable : (message : Message) {e : Ends} → unitsOf message ≡ Units e → Usable e
+pub usable : (message : Message) {e : Ends} → unitsOf message ≡ Units e → Usable (exactUnits message) e
 unfolding unitsOf
 usable (Ppm x) h = at-float 256 x h
 usable (Percent x) h = at-float 2560000 x h

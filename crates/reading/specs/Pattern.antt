@@ -3,6 +3,7 @@ use Prim.Native.Nat.{ℕ, _+_, _/_, _%_, _^_}
 use mathlib.Core.Bool.{Bool, cond}
 use lib.IntN.{pos}
 use lib.Dec.{ltb, eqb}
+use Rattle.arith.specs.declared.Ends.{Ends}
 use Rattle.arith.specs.Fraction.{Fraction}
 use Rattle.reading.specs.declared.Binary.{Binary}
 
@@ -26,3 +27,7 @@ binaryOf bits = apart (eqb (exponentField bits) 0) (ltb (2 ^ 31) bits) (exponent
 -- n with so many binary places
 abbrev pub over : ℕ → ℕ → Fraction
 over n places = record { num = pos n; den = pos (2 ^ places) }
+
+-- the ends of a number with this whole part and, where it is not 0, a rest
+unfoldable pub withRest : ℕ → ℕ → Ends
+withRest whole rest = record { lower = pos whole; upper = pos (cond (eqb rest 0) whole (whole + 1)) }

@@ -1,13 +1,13 @@
--- What a message of the analyser is worth in units of 1/256 ppm (01, Bag sheet and figures, first paragraph).
+-- What a message of the analyser is worth in units of 1/256 ppm (01, Bag sheet and figures, first paragraph; 02, M-104).
 -- A float is `nan`, `inf s` or `fin s m e`: m · 2ᵉ, with a minus where s is true. `up e / down e` is 2ᵉ (lib.Ieee).
 use Prim.Native.Nat.{ℕ, _*_}
 use mathlib.Core.Bool.{cond}
 use lib.IntN.{ℤ, pos, negℤ}
 use lib.Signed.{leZ, ltZ}
 use lib.Ieee.{Float, nan, inf, fin, up, down}
-use Rattle.arith.specs.Rounding.{divDown}
-use Rattle.arith.specs.Stages.{exactly}
-use Rattle.arith.specs.Fraction.{Fraction, whole, _+ᶠ_, _*ᶠ_}
+use Rattle.arith.specs.declared.Ends.{Ends}
+use Rattle.arith.specs.Rounding.{divDown, divUp}
+use Rattle.arith.specs.Fraction.{Fraction, whole, _*ᶠ_}
 use Rattle.reading.specs.declared.Message.{Message}
 use Rattle.reading.specs.declared.Message.the-variants.{Ppm, Percent, OverRange, NotFitted}
 use Rattle.reading.specs.declared.Worth.{Worth}
@@ -24,33 +24,34 @@ exactValue nan = none
 exactValue (inf s) = none
 exactValue (fin s m e) = value (record { num = cond s (negℤ (pos (m * up e))) (pos (m * up e)); den = pos (down e) })
 
-abbrev pub half : Fraction
-half = record { num = pos 1; den = pos 2 }
+-- so many times the value
+abbrev pub times : ℤ → Exact → Exact
+times each none = none
+times each (value q) = value (q *ᶠ whole each)
 
--- the largest whole number at or below a fraction
-abbrev pub wholePart : Fraction → ℤ
-wholePart q = divDown (q .num) (q .den)
+-- in units: "ppm by 256; percent by 2,560,000"; "over range, not fitted" have no value
+abbrev pub exactUnits : Message → Exact
+exactUnits (Ppm x) = times (pos 256) (exactValue x)
+exactUnits (Percent x) = times (pos 2560000) (exactValue x)
+exactUnits OverRange = none
+exactUnits NotFitted = none
 
--- "nearest, halves up"
-abbrev pub nearest : Fraction → ℤ
-nearest q = wholePart (q +ᶠ half)
+-- "A converted reading becomes two ends, the float's exact value in 1/256 ppm rounded down and up" (02, M-104)
+unfoldable pub outward : Fraction → Ends
+outward q = record { lower = divDown (q .num) (q .den); upper = divUp (q .num) (q .den) }
 
--- "after rounding more than 16,777,216 units" is unusable
+-- "16,777,216 units are judged on the upper end": more is unusable
 abbrev pub mostUnits : ℕ
 mostUnits = 16777216
 
--- a usable reading enters the stages as ends, both the same
-abbrev pub upToLimit : ℤ → Worth
-upToLimit u = cond (leZ u (pos mostUnits)) (Units (exactly u)) Unusable
+abbrev pub upToLimit : Ends → Worth
+upToLimit ends = cond (leZ (ends .upper) (pos mostUnits)) (Units ends) Unusable
 
--- `each` units to one ppm or percent; "below zero" is unusable
-abbrev pub inUnits : ℤ → Exact → Worth
-inUnits each none = Unusable
-inUnits each (value q) = cond (ltZ (q .num) (pos 0)) Unusable (upToLimit (nearest (q *ᶠ whole each)))
+-- "its 'below zero' still on the float itself", whose sign the scale keeps: before any rounding
+abbrev pub rounded : Exact → Worth
+rounded none = Unusable
+rounded (value q) = cond (ltZ (q .num) (pos 0)) Unusable (upToLimit (outward q))
 
--- "ppm by 256; percent by 2,560,000"; "over range, not fitted" are unusable
+-- what a message is worth
 unfoldable pub unitsOf : Message → Worth
-unitsOf (Ppm x) = inUnits (pos 256) (exactValue x)
-unitsOf (Percent x) = inUnits (pos 2560000) (exactValue x)
-unitsOf OverRange = Unusable
-unitsOf NotFitted = Unusable
+unitsOf message = rounded (exactUnits message)

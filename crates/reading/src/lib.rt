@@ -1,10 +1,10 @@
-// The analyser's message and its worth in whole units of 1/256 ppm, for every float that it can carry.
+// The analyser's message and its worth in units of 1/256 ppm, as two ends, for every float that it can carry.
 ghost use mathlib.Core.Path.{_≡_};
 ghost use Prim.Native.Nat.{_^_, _≤_, _<_};
 ghost use lib.IntN.{pos};
 ghost use lib.Ieee.{ofBits, toBits, binary32};
-ghost use Rattle.reading.specs.Pattern.{binaryOf, over};
-ghost use Rattle.reading.specs.Units.{exactValue, nearest, upToLimit, inUnits, unitsOf};
+ghost use Rattle.reading.specs.Pattern.{binaryOf, over, withRest};
+ghost use Rattle.reading.specs.Units.{exactValue, times, outward, upToLimit, rounded, unitsOf};
 use arith::Ends;
 
 // What the analyser sends for one gas.
@@ -29,12 +29,12 @@ pub enum Worth {
     Unusable,
 }
 
-// The limit is judged here, on whole units, and so after the rounding.
-fn up_to_limit(units: u64) -> Worth
-    ensures { λ r. ⌜ r ≡ upToLimit (pos units) ⌝ }
+// The limit is judged on the upper end.
+fn up_to_limit(ends: Ends) -> Worth
+    ensures { λ r. ⌜ r ≡ upToLimit ends ⌝ }
 {
-    if units <= 16777216 {
-        Worth::Units(arith::exactly(units as i64))
+    if ends.upper <= 16777216 {
+        Worth::Units(ends)
     } else {
         Worth::Unusable
     }
@@ -78,28 +78,38 @@ fn binary_of(bits: u32) -> Binary
     }
 }
 
-// The whole number nearest to product / 2^places, halves up. A shift by the word's width or more has no meaning, and there nothing is left.
-fn nearest_whole(product: u64, places: u64) -> u64
-    requires { ⌜ product < 2 ^ 52 ⌝ }
-    ensures { λ r. ⌜ pos r ≡ nearest (over product places) ⌝ }
+// The ends of a number with this whole part and, where it is not 0, a rest.
+fn with_rest(whole: u64, rest: u64) -> Ends
+    requires { ⌜ whole < 2 ^ 52 ⌝ }
+    ensures { λ r. ⌜ r ≡ withRest whole rest ⌝ }
 {
-    if places >= 64 {
-        return 0;
-    }
-    let one: u64 = 1 << places;
-    let whole: u64 = product / one;
-    if 2 * (product % one) >= one {
-        whole + 1
+    if rest == 0 {
+        arith::exactly(whole as i64)
     } else {
-        whole
+        Ends {
+            lower: whole as i64,
+            upper: (whole + 1) as i64,
+        }
     }
 }
 
-// A float in units, `each` of them to one ppm or percent, in whole numbers from its bits. From the exponent 144 on, which is 131,072, a float is
+// product / 2^places, rounded down and up. A shift by the word's width or more has no meaning, and there all is rest.
+fn outward(product: u64, places: u64) -> Ends
+    requires { ⌜ product < 2 ^ 52 ⌝ }
+    ensures { λ r. ⌜ r ≡ outward (over product places) ⌝ }
+{
+    if places >= 64 {
+        return with_rest(0, product);
+    }
+    let one: u64 = 1 << places;
+    with_rest(product / one, product % one)
+}
+
+// A float's ends in units, `each` of them to one ppm or percent, in whole numbers from its bits. From the exponent 144 on, which is 131,072, a float is
 // over the limit in either measure, infinite or not a number.
 fn in_units(x: f32, each: u64) -> Worth
     requires { ⌜ 256 ≤ each ⌝ ∗ ⌜ each < 2 ^ 28 ⌝ }
-    ensures { λ r. ⌜ r ≡ inUnits (pos each) (exactValue x) ⌝ }
+    ensures { λ r. ⌜ r ≡ rounded (times (pos each) (exactValue x)) ⌝ }
 {
     let binary = binary_of(bits_of(x));
     if binary.negative {
@@ -108,7 +118,7 @@ fn in_units(x: f32, each: u64) -> Worth
     if binary.exponent >= 144 {
         return Worth::Unusable;
     }
-    up_to_limit(nearest_whole(each * binary.significand, 150 - binary.exponent))
+    up_to_limit(outward(each * binary.significand, 150 - binary.exponent))
 }
 
 pub fn convert(message: Message) -> Worth

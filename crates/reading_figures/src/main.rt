@@ -1,4 +1,4 @@
-// The units of messages, bit pattern by bit pattern, as ppm and as percent, as the compiled code gives them.
+// The ends of messages in units, bit pattern by bit pattern, as ppm and as percent, as the compiled code gives them.
 use libc::STDOUT_FILENO;
 use print::end_line;
 use print::text;
@@ -51,6 +51,18 @@ fn halves() {
     row(0x3900_0000);
 }
 
+// 1 and 2 units of ppm, and 1 percent, with the floats beside each.
+fn wholes() {
+    row(0x3b7f_ffff);
+    row(0x3b80_0000);
+    row(0x3b80_0001);
+    row(0x3bff_ffff);
+    row(0x3c00_0000);
+    row(0x3c00_0001);
+    row(0x3f7f_ffff);
+    row(0x3f80_0001);
+}
+
 // Plain readings: 0.1, 1, 3.5, 6, 400, 14,500 and nearly 32,768.
 fn within() {
     row(0x3dcc_cccd);
@@ -97,6 +109,7 @@ fn without_a_float() {
 fn main() {
     zeros();
     halves();
+    wholes();
     within();
     limit();
     unusable();

@@ -29,7 +29,7 @@ impl<T> Gases<T> {
 }
 
 /// What the analyser sent for one gas: a kind, and the bits of its float. The fields are open, so that a message can be handed on as it came; a
-/// kind that is none of the four counts as not fitted.
+/// kind that is none of the four counts as not fitted. It enters the figures as two ends, the float's exact value in 1/256 ppm rounded down and up.
 #[repr(C)]
 #[derive(Clone, Copy, Debug, Default, PartialEq, Eq)]
 pub struct Reading {

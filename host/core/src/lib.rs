@@ -21,7 +21,7 @@ use std::sync::Once;
 pub const LINKED: bool = cfg!(linked);
 
 /// The version of the header after which the types here are written.
-pub const VERSION: u32 = 5;
+pub const VERSION: u32 = 6;
 
 /// The version of the core's archive.
 ///

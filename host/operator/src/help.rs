@@ -72,7 +72,7 @@ pub const RESULT: &str = "\
 usage: NAME result BAGSHEET [--csv FILE]
 
 Prints volume, masses and rates of each part, the weighted result with its verdicts, and the fuel consumption. Each figure has two ends, and the
-exact one lies between them. Volumes are at 20 degrees C and 101.325 kPa, to which the densities belong.
+exact one, worked from the readings' 32-bit floats, lies between them. Volumes are at 20 degrees C and 101.325 kPa, to which the densities belong.
 
   --csv FILE    writes every figure, with the limit and the verdict of a weighted gas
 

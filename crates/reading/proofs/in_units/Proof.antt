@@ -11,7 +11,7 @@ use lib.Ieee.{Float, binary32, ofBits}
 use lib.Ieee.Bits.{ofBits-toBits}
 use borrow.Author.Needs.{needs}
 use Rattle.reading.specs.declared.Binary.{Binary}
-use Rattle.reading.specs.Units.{exactValue, nearest, upToLimit, inUnits}
+use Rattle.reading.specs.Units.{exactValue, times, outward, upToLimit, rounded}
 use Rattle.reading.specs.Pattern.{binaryOf, over}
 use Rattle.reading.proofs.Pattern.{reads, negative, too-large, in-range}
 use Rattle.reading.proofs.in_units.Statement.{statement}
@@ -33,8 +33,8 @@ module _ (c : tie.After-binary-of) where
   read-back : ofBits binary32 bits ≡ x
   read-back = ap (ofBits binary32) (c .before .bits-of .ensures) ∙ ofBits-toBits binary32 x (subst T (sym (c .before .before .good .0 .1)) tt)
 
-  worth : inUnits (pos k) (exactValue (ofBits binary32 bits)) ≡ inUnits (pos k) (exactValue x)
-  worth = ap (λ (y : Float). inUnits (pos k) (exactValue y)) read-back
+  worth : rounded (times (pos k) (exactValue (ofBits binary32 bits))) ≡ rounded (times (pos k) (exactValue x))
+  worth = ap (λ (y : Float). rounded (times (pos k) (exactValue y))) read-back
 
   wide : bits < 2 ^ 32
   wide = c .before .bits-of .ok
@@ -51,7 +51,7 @@ module _ (c : tie.After-binary-of) where
       (mul-lt-mul-of-pos-right (c .before .before .pre .1) (pow-pos 24))
 
 returns : tie.Need-returns
-returns c = let at = c .before in negative (bits at) (k at) (wide at) (signed at true (c .if1 .taken)) ∙ worth at
+returns c = let at = c .before in negative (bits at) (k at) (at .before .before .pre .0) (wide at) (signed at true (c .if1 .taken)) ∙ worth at
 
 returns-2 : tie.Need-returns-2
 returns-2 c =
@@ -60,20 +60,21 @@ returns-2 c =
     (subst (λ (b : Binary). 144 ≤ b .exponent) (is at) (omega (arith, c .if2 .taken)))
     ∙ worth at
 
-mul-nearest-whole : tie.Need-mul-nearest-whole
-mul-nearest-whole c = omega (arith, product-lt (c .before .before .before .before))
+mul-outward : tie.Need-mul-outward
+mul-outward c = omega (arith, product-lt (c .before .before .before .before))
 
-nearest-whole-requires : tie.Need-nearest-whole-requires
-nearest-whole-requires c κs = product-lt (c .before .before .before .before .before)
+outward-requires : tie.Need-outward-requires
+outward-requires c κs = product-lt (c .before .before .before .before .before)
 
 returns-3 : tie.Need-returns-3
 returns-3 c =
     let past = c .before .before .before .before in
     let at = past .before .before .before in
     c .up-to-limit .ensures
-    ∙ ap upToLimit (c .before .nearest-whole .ensures)
-    ∙ ap (λ (b : Binary). upToLimit (nearest (over (k at * b .significand) (150 - b .exponent)))) (is at)
-    ∙ in-range (bits at) (k at) (signed at false (past .before .before .if1 .left)) (subst (λ (b : Binary). b .exponent < 144) (is at) (omega (arith, past .if2 .left)))
+    ∙ ap upToLimit (c .before .outward .ensures)
+    ∙ ap (λ (b : Binary). upToLimit (outward (over (k at * b .significand) (150 - b .exponent)))) (is at)
+    ∙ in-range (bits at) (k at) (signed at false (past .before .before .if1 .left))
+    (subst (λ (b : Binary). b .exponent < 144) (is at) (omega (arith, past .if2 .left)))
     ∙ worth at
 
 pub in-units-spec : {M : Type 1} → statement M
@@ -84,8 +85,8 @@ in-units-spec =
     (λ c κs. search needs)
     returns
     returns-2
-    mul-nearest-whole
+    mul-outward
     (λ c. search needs)
-    nearest-whole-requires
+    outward-requires
     (λ c κs. search needs)
     returns-3)
