@@ -3,11 +3,9 @@ use arith::Ends;
 use bag::Densities;
 use bag::Part;
 use bag::Triple;
-use reading::Message;
 use reading::Worth;
 use refusal::Refusal;
 ghost use mathlib.Core.Path.{_≡_};
-ghost use Rattle.reading.specs.Units.{unitsOf};
 ghost use Rattle.part.specs.Part.{gIn, diluted, dryEnough, gasMass, massesOf, volumeIn, correctedFor, ratesOf, massIn, partOf};
 ghost use Rattle.part.specs.Read.{readGas, sidesFrom, readPart};
 ghost use Rattle.arith.specs.Fitting.{Sized};
@@ -54,14 +52,14 @@ pub enum PartRead {
     Refused(Refusal),
 }
 
-// Each message is converted once, the bag's before the air's: the ends of both, or refusal 12.
-fn read_gas(part: u32, gas: u32, bag: Message, air: Message) -> GasRead
-    ensures { λ r. ⌜ r ≡ readGas part gas (unitsOf bag) (unitsOf air) ⌝ }
+// The ends of a gas from what its messages are worth, the bag's before the air's, or refusal 12.
+fn read_gas(part: u32, gas: u32, bag: Worth, air: Worth) -> GasRead
+    ensures { λ r. ⌜ r ≡ readGas part gas bag air ⌝ }
 {
-    let Worth::Units(in_bag) = reading::convert(bag) else {
+    let Worth::Units(in_bag) = bag else {
         return GasRead::Refused(Refusal::Reading { part, gas, side: 1 });
     };
-    let Worth::Units(in_air) = reading::convert(air) else {
+    let Worth::Units(in_air) = air else {
         return GasRead::Refused(Refusal::Reading { part, gas, side: 2 });
     };
     GasRead::Units(GasSides {
@@ -96,7 +94,8 @@ fn sides_from(hc: GasSides, co: GasSides, nox: GasSides, co2: GasSides) -> Sides
     Sides { bag, air }
 }
 
-// The ends of every gas, in the table's order, or the first refusal.
+// The ends of every gas, in the table's order, or the first refusal. Each message is converted once, and all of them before the first is looked at:
+// ends that were just written and are read at once make the processor wait (docs/DECISIONS.md).
 pub fn read_part(part: u32, p: Part) -> PartRead
     ensures { λ r. ⌜ r ≡ readPart part p ⌝ }
 {
@@ -110,19 +109,27 @@ pub fn read_part(part: u32, p: Part) -> PartRead
     let air_nox = air.nox;
     let bag_co2 = bag.co2;
     let air_co2 = air.co2;
-    let hc = match read_gas(part, 1, bag_hc, air_hc) {
+    let worth_bag_hc = reading::convert(bag_hc);
+    let worth_air_hc = reading::convert(air_hc);
+    let worth_bag_co = reading::convert(bag_co);
+    let worth_air_co = reading::convert(air_co);
+    let worth_bag_nox = reading::convert(bag_nox);
+    let worth_air_nox = reading::convert(air_nox);
+    let worth_bag_co2 = reading::convert(bag_co2);
+    let worth_air_co2 = reading::convert(air_co2);
+    let hc = match read_gas(part, 1, worth_bag_hc, worth_air_hc) {
         GasRead::Units(hc) => hc,
         GasRead::Refused(refusal) => return PartRead::Refused(refusal),
     };
-    let co = match read_gas(part, 2, bag_co, air_co) {
+    let co = match read_gas(part, 2, worth_bag_co, worth_air_co) {
         GasRead::Units(co) => co,
         GasRead::Refused(refusal) => return PartRead::Refused(refusal),
     };
-    let nox = match read_gas(part, 3, bag_nox, air_nox) {
+    let nox = match read_gas(part, 3, worth_bag_nox, worth_air_nox) {
         GasRead::Units(nox) => nox,
         GasRead::Refused(refusal) => return PartRead::Refused(refusal),
     };
-    let co2 = match read_gas(part, 4, bag_co2, air_co2) {
+    let co2 = match read_gas(part, 4, worth_bag_co2, worth_air_co2) {
         GasRead::Units(co2) => co2,
         GasRead::Refused(refusal) => return PartRead::Refused(refusal),
     };
