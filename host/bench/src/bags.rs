@@ -5,7 +5,7 @@ use ylhovesko::Refusal;
 
 use crate::{at, check, nowhere};
 
-const MOST_UNITS: i64 = 16_777_216;
+const MOST_UNITS: f64 = 16_777_216.0;
 const NOX: usize = 2;
 
 fn ends(lower: i64, upper: i64, divisor: i64) -> Ends {
@@ -23,21 +23,21 @@ fn scaled(a: Ends, factor: i64, divisor: i64) -> Ends {
     ends(a.lower * factor, a.upper * factor, divisor)
 }
 
-/// A reading in units of 1/256 ppm, rounded to the nearest from the float's exact value.
-fn units(reading: Reading) -> Option<i64> {
+/// A reading in units of 1/256 ppm: the float's exact value, rounded down and up.
+fn units(reading: Reading) -> Option<Ends> {
     let each = match reading.kind {
         0 => 256.0,
         1 => 2_560_000.0,
         _ => return None,
     };
-    let x = f32::from_bits(reading.bits);
-    // exact: 24 bits of the float times 22; the half that is added is lost only where the sum is far below 1
-    let units = f64::from(x) * each;
-    if units.is_nan() || units < 0.0 {
+    // exact: 24 bits of the float times 22
+    let units = f64::from(f32::from_bits(reading.bits)) * each;
+    // what is not a number is in no range; the limit is whole, so that a value up to it has its upper end up to it
+    if !(0.0..=MOST_UNITS).contains(&units) {
         return None;
     }
-    let nearest = (units + 0.5) as i64;
-    (nearest <= MOST_UNITS).then_some(nearest)
+    let lower = units as i64;
+    Some(Ends { lower, upper: lower + i64::from(units > lower as f64) })
 }
 
 fn field(part: u32, field: u32, holds: bool) -> Result<(), Refusal> {
@@ -66,8 +66,8 @@ fn judge_part(place: u32, p: &Part) -> Result<(), Refusal> {
 
 #[derive(Clone, Copy, Default)]
 struct Units {
-    bag: [i64; 4],
-    air: [i64; 4],
+    bag: [Ends; 4],
+    air: [Ends; 4],
 }
 
 fn readings(place: u32, p: &Part) -> Result<Units, Refusal> {
@@ -81,9 +81,11 @@ fn readings(place: u32, p: &Part) -> Result<Units, Refusal> {
     Ok(found)
 }
 
-fn g(s: &Sheet, units: &Units) -> i64 {
+fn g(s: &Sheet, units: &Units) -> Ends {
     let [hc, co, _, co2] = units.bag;
-    10 * co2 + i64::from(s.triple.wc) * co + i64::from(s.triple.wh) * hc
+    let [wc, wh] = [s.triple.wc, s.triple.wh].map(i64::from);
+    let sum = |hc: i64, co: i64, co2: i64| 10 * co2 + wc * co + wh * hc;
+    Ends { lower: sum(hc.lower, co.lower, co2.lower), upper: sum(hc.upper, co.upper, co2.upper) }
 }
 
 fn q(s: &Sheet) -> i64 {
@@ -112,11 +114,16 @@ fn volume(p: &Part) -> Ends {
     ends(swept * 5863, swept * 5863, 101_325 * (2 * i64::from(p.temperature) + 5463))
 }
 
+/// No reading is below zero, and G is below Q: it rises with the bag and with G, and falls with the air.
+fn concentration(bag: Ends, air: Ends, g: Ends, q: i64) -> Ends {
+    let over = |bag: i64, air: i64, g: i64| 16 * (bag * q - air * (q - g));
+    ends(over(bag.lower, air.upper, g.lower), over(bag.upper, air.lower, g.upper), q)
+}
+
 fn part_result(s: &Sheet, p: &Part, units: &Units) -> PartResult {
     let (g, q, volume, density, kh) = (g(s, units), q(s), volume(p), p.density.each(), kh(p));
     let mass: [Ends; 4] = std::array::from_fn(|gas| {
-        let over = 16 * (units.bag[gas] * q - units.air[gas] * (q - g));
-        let gas_volume = times(ends(over, over, q), volume, 4_096_000);
+        let gas_volume = times(concentration(units.bag[gas], units.air[gas], g, q), volume, 4_096_000);
         let mass = scaled(gas_volume, i64::from(density[gas]), 1_000_000);
         if gas == NOX {
             times(mass, kh, 65_536)
@@ -162,7 +169,7 @@ pub fn result(s: &Sheet) -> Result<TestResult, Refusal> {
         units[k] = readings(k as u32 + 1, part)?;
     }
     for (k, units) in units[..n].iter().enumerate() {
-        check(g(s, units) < q(s), at(13, k as u32 + 1))?;
+        check(g(s, units).upper < q(s), at(13, k as u32 + 1))?;
     }
     for (k, part) in s.parts[..n].iter().enumerate() {
         check(dry_enough(part), at(14, k as u32 + 1))?;

@@ -9,7 +9,7 @@ use plain::fraction::Fraction;
 use ylhovesko::bags::{Ends, Fuel, Gases, Part, Reading, Sheet, Triple, Verdict};
 
 use crate::random::Random;
-use crate::{core_told, plain_told, Told};
+use crate::{core_told, plain_told, stored, Told};
 
 /// The outcome, and where it is a result all its figures, in the order of vectors/bags.txt: each weighted gas with its verdict (0 pass, 1 fail, 2
 /// undecided), the fuel, and of each part that the class has the volume and each gas's mass and rate.
@@ -61,6 +61,16 @@ pub fn answer_text(([number, at, within, side], figures): &Answer) -> String {
         _ => format!(" {figure}"),
     };
     "result".to_string() + &figures.iter().enumerate().map(word).collect::<String>()
+}
+
+/// A file of stored cases, each as it stands there, with what the second implementation says of it.
+pub fn answered_anew(text: &str) -> String {
+    let anew = |(_, text): (u64, &str)| {
+        let sheet = read(text).0;
+        format!("{} {}\n", Line(&sheet), answer_text(&by_plain(&sheet).0))
+    };
+    let head = text.lines().take_while(|line| line.starts_with('#')).map(|line| format!("{line}\n"));
+    head.chain(stored(text).map(anew)).collect()
 }
 
 /// The verdicts' words, in the order of their numbers in an [`Answer`].
@@ -182,7 +192,8 @@ fn holds_exact(result: &TestResult, exact: &ExactTest) -> bool {
     let between = |figure: &Figure, exact: &Fraction| exact.between(figure.lower, figure.upper);
     let all = |figures: &[Figure; 4], exact: &[Fraction; 4]| figures.iter().zip(exact).all(|(figure, exact)| between(figure, exact));
     let of_part = |(part, exact): (&PartResult, &ExactPart)| {
-        between(&part.volume, &exact.volume) && all(&part.mass, &exact.mass) && all(&part.rate, &exact.rate)
+        let stages = all(&part.concentration, &exact.concentration) && all(&part.mass, &exact.mass) && all(&part.rate, &exact.rate);
+        between(&part.volume, &exact.volume) && stages
     };
     let parts = result.parts.len() == exact.parts.len() && result.parts.iter().zip(&exact.parts).all(of_part);
     parts && all(&result.weighted, &exact.weighted) && between(&result.fuel, &exact.fuel)
@@ -239,17 +250,20 @@ fn beside(random: &mut Random, x: f32) -> u32 {
     (x.to_bits() + random.from(0, 2)).saturating_sub(1)
 }
 
-/// A usable reading of about so many units, as ppm or percent; now and then at a half of a unit or next to it, where the rounding turns.
+/// A usable reading of about so many units, as ppm or percent: so many or next to it, where both ends turn, half a unit more or next to that, or any part
+/// of a unit more.
 fn reading(random: &mut Random, units: u32) -> Reading {
     let kind = u32::from(random.once_in(3));
     let each = [256.0, 2_560_000.0][kind as usize];
+    let of = |units: u32, more: f64| ((f64::from(units) + more) / each) as f32;
     let bits = match random.below(16) {
         0 => 0,
         1 => 0x8000_0000,
         2 => random.from(1, 0x7f_ffff),
-        3 | 4 => beside(random, ((f64::from(units) + 0.5) / each) as f32),
-        5 => beside(random, (f64::from(units) / each) as f32),
-        _ => ((f64::from(units) / each) as f32).to_bits(),
+        3 | 4 => beside(random, of(units, 0.0)),
+        5 => beside(random, of(units, 0.5)),
+        6..=9 => of(units.min(MOST - 1), random.below(1000) as f64 / 1000.0).to_bits(),
+        _ => of(units, 0.0).to_bits(),
     };
     Reading { kind, bits }
 }

@@ -10,6 +10,7 @@ pub mod gear;
 pub mod pairs;
 mod rule_sets;
 pub mod speeds;
+mod two_ends;
 
 /// The files in host/vectors, each with its text.
 pub fn files() -> [(&'static str, String); 5] {

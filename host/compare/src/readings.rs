@@ -1,10 +1,11 @@
 //! Readings, bit pattern by bit pattern: what the core converts each to.
 //!
 //! No call tells the units of a reading, but on the sheet that is used here a mass does: 256 cubic metres at the reference state, clean air and a
-//! density of 1,000 mg per cubic metre make one microgram of each unit of 1/256 ppm, and no stage has anything to round. NOx has its humidity
-//! correction besides, so its readings are used for refusals alone.
+//! density of 1,000 mg per cubic metre make one microgram of each unit of 1/256 ppm, and no stage has anything to round. So the ends of the mass are
+//! those of the reading. NOx has its humidity correction besides, so its readings are used for refusals alone.
 
 use plain::bags::units;
+use plain::figure::Figure;
 use ylhovesko::bags::{result, Ends, Fuel, Gases, Part, Reading, Sheet, Triple};
 
 use crate::bags::{of_gas, plain_message};
@@ -45,7 +46,7 @@ fn sheet() -> Sheet {
 /// Holds the core to the second implementation, pattern by pattern.
 pub struct Sweep {
     kind: u32,
-    waiting: Vec<(u32, i128)>,
+    waiting: Vec<(u32, Figure)>,
     pub usable: u64,
     pub unusable: u64,
 }
@@ -90,7 +91,7 @@ impl Sweep {
         let mut told = result(sheet).unwrap_or_else(|refusal| panic!("{refusal:?} with {:08x?} of kind {}", self.waiting, self.kind));
         for (place, (bits, units)) in self.waiting.drain(..).enumerate() {
             let Ends { lower, upper } = *of_gas(&mut told.parts[place / 3].mass, WEIGHED[place % 3]);
-            assert_eq!([lower, upper].map(i128::from), [units; 2], "units of {bits:08x}, kind {}", self.kind);
+            assert_eq!([lower, upper].map(i128::from), [units.lower, units.upper], "units of {bits:08x}, kind {}", self.kind);
         }
     }
 
@@ -111,16 +112,18 @@ pub fn ends_of_exponents() -> impl Iterator<Item = u32> {
     (0..512).flat_map(move |field: u32| significands.clone().map(move |significand| (field << 23) + significand))
 }
 
-/// Where the nearest unit turns, from zero up past the most: the least float at or above the half below so many units, and those units. It is worked
-/// out from the halves alone, with no float converted.
-pub fn turns(each: u64) -> impl Iterator<Item = (u32, u64)> {
+/// Where the ends turn, from zero up past the most: the least float at or above each whole number of units, and whether it is that number. It is worked out
+/// from whole numbers alone, with no float converted.
+pub fn turns(each: u64) -> impl Iterator<Item = (u32, bool)> {
     let mut places = 47;
-    (1..=MOST + 1).map(move |units| {
-        let significand = |places: u64| ((2 * units - 1) << places).div_ceil(2 * each);
+    let above_zero = (1..=MOST + 4).map(move |units| {
+        let significand = |places: u64| (units << places).div_ceil(each);
         while significand(places) > 1 << 24 {
             places -= 1;
         }
         // a significand of 2^24 is the least of the next exponent
-        ((((150 - places) << 23) + significand(places) - (1 << 23)) as u32, units)
-    })
+        let bits = ((150 - places) << 23) + significand(places) - (1 << 23);
+        (bits as u32, (units << places).is_multiple_of(each))
+    });
+    std::iter::once((0, true)).chain(above_zero)
 }

@@ -7,18 +7,26 @@ use compare::{cases, stored};
 use plain::preset::{DIESEL, PETROL};
 use ylhovesko::bags::{diesel, petrol};
 
-/// Every line of vectors/bags.txt: the number, the place and every figure.
-#[test]
-fn stored_cases() {
-    let mut lines = 0;
-    for (line, text) in stored(include_str!("../../vectors/bags.txt")) {
+/// Every line of a file of stored cases: the number, the place and every figure.
+fn both_answer(text: &str, lines: usize) {
+    for (line, text) in stored(text) {
         let (sheet, answer) = read(text);
         assert!(text.starts_with(&format!("{} ", Line(&sheet))), "line {line} is written otherwise: {}", Line(&sheet));
         assert_eq!(by_plain(&sheet), (answer.clone(), true), "plain, line {line}");
         assert_eq!(by_core(&sheet), answer, "core, line {line}");
-        lines += 1;
     }
-    assert_eq!(lines, 500);
+    assert_eq!(stored(text).count(), lines);
+}
+
+#[test]
+fn stored_cases() {
+    both_answer(include_str!("../../vectors/bags.txt"), 500);
+}
+
+/// The cases that came with the request.
+#[test]
+fn stored_cases_of_m_104() {
+    both_answer(include_str!("../../vectors/M-104-bags.txt"), 300);
 }
 
 /// The presets, with any density of the test fuel.

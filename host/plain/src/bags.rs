@@ -43,8 +43,9 @@ pub struct Sheet {
     pub parts: [Part; 3],
 }
 
-/// "Nearest, halves up, from the float's exact value": the float times `each`. Nothing where the message is unusable.
-fn scaled_float(x: f32, each: i128) -> Option<i128> {
+/// "The float's exact value in 1/256 ppm rounded down and up" (02, M-104), where `each` is what one of the float's measure has. Nothing where the message
+/// is unusable by the float itself.
+fn scaled_float(x: f32, each: i128) -> Option<Figure> {
     if !x.is_finite() || x < 0.0 {
         return None;
     }
@@ -52,31 +53,34 @@ fn scaled_float(x: f32, each: i128) -> Option<i128> {
     let (exponent, fraction) = ((bits >> 23) as i32, i128::from(bits & 0x7f_ffff));
     let (mantissa, power) = if exponent == 0 { (fraction, -149) } else { (fraction + (1 << 23), exponent - 150) };
     let product = mantissa * each;
-    // the product has under 46 bits: past these powers it is over every limit, or under a half
+    // the product has under 46 bits: from 2^20 on it is over every limit, and from 2^-46 down between 0 and 1, so that 2^-100 does for all below it
     match power {
         20.. => None,
-        0.. => Some(product << power),
-        -60.. => Some((2 * product + (1 << -power)) >> (1 - power)),
-        _ => Some(0),
+        0.. => Some(Figure::of(product << power, 1)),
+        _ => Some(Figure::of(product, 1 << (-power).min(100))),
     }
 }
 
-/// A message in units of 1/256 ppm, or nothing where it is unusable.
+/// "A converted reading becomes two ends" (02, M-104): a message in units of 1/256 ppm, or nothing where it is unusable. "Refusal 12's 16,777,216 units are
+/// judged on the upper end, its 'below zero' still on the float itself."
 ///
 /// ```
 /// use plain::bags::{units, Message};
-/// assert_eq!(units(Message::Ppm(65536.0)), Some(16_777_216));
-/// assert_eq!(units(Message::Percent(-0.0)), Some(0));
-/// assert_eq!(units(Message::Ppm(1.0 / 512.0)), Some(1));
-/// assert_eq!(units(Message::OverRange), None);
+/// let ends = |message| units(message).map(|units| (units.lower, units.upper));
+/// assert_eq!(ends(Message::Ppm(1.0 / 512.0)), Some((0, 1)));
+/// assert_eq!(ends(Message::Ppm(1.0 / 256.0)), Some((1, 1)));
+/// assert_eq!(ends(Message::Ppm(65536.0)), Some((16_777_216, 16_777_216)));
+/// assert_eq!(ends(Message::Percent(-0.0)), Some((0, 0)));
+/// assert_eq!(ends(Message::Percent(1.0e-45)), Some((0, 1)));
+/// assert_eq!(ends(Message::OverRange), None);
 /// ```
-pub fn units(message: Message) -> Option<i128> {
+pub fn units(message: Message) -> Option<Figure> {
     let units = match message {
         Message::Ppm(x) => scaled_float(x, 256),
         Message::Percent(x) => scaled_float(x, 2_560_000),
         Message::OverRange | Message::NotFitted => None,
     };
-    units.filter(|&units| units <= 16_777_216)
+    units.filter(|units| units.upper <= 16_777_216)
 }
 
 /// "Class 1, parts 50 and 50 percent; class 2, 30 and 70; class 3, 25, 50 and 25."
@@ -115,14 +119,15 @@ fn judge_part(place: u32, p: &Part) -> Result<(), Refusal> {
 }
 
 /// The readings of a part in units.
-pub(crate) struct Readings {
-    pub bag: [i128; 4],
-    pub air: [i128; 4],
+struct Readings {
+    bag: [Figure; 4],
+    air: [Figure; 4],
 }
 
 /// Refusal 12 of a part: gas by gas, the bag before the air.
 fn readings(place: u32, p: &Part) -> Result<Readings, Refusal> {
-    let mut readings = Readings { bag: [0; 4], air: [0; 4] };
+    let nothing = [Figure::of(0, 1); 4];
+    let mut readings = Readings { bag: nothing, air: nothing };
     for gas in 0..4 {
         let unusable = |side| Refusal { within: gas as u32 + 1, side, ..at(12, place) };
         readings.bag[gas] = units(p.bag[gas]).ok_or(unusable(1))?;
@@ -131,17 +136,16 @@ fn readings(place: u32, p: &Part) -> Result<Readings, Refusal> {
     Ok(readings)
 }
 
-/// "G = 10 CO2 + wc CO + wh HC in bag units, Q = 2,560,000 D."
-fn g_and_q(s: &Sheet, r: &Readings) -> (i128, i128) {
+/// "G = 10 CO2 + wc CO + wh HC in bag units, Q = 2,560,000 D." Each end of G has that end of the three.
+fn g_and_q(s: &Sheet, r: &Readings) -> (Figure, i128) {
     let [hc, co, _, co2] = r.bag;
-    let g = 10 * co2 + i128::from(s.wc) * co + i128::from(s.wh) * hc;
-    (g, 2_560_000 * i128::from(s.d))
+    (combined(&[(10, co2), (s.wc, co), (s.wh, hc)], 1), 2_560_000 * i128::from(s.d))
 }
 
-/// "G must be below Q."
+/// "G must be below Q", and "13 is judged on the upper end of G" (02, M-104).
 fn lean_enough(s: &Sheet, r: &Readings) -> bool {
     let (g, q) = g_and_q(s, r);
-    g < q
+    g.upper < q
 }
 
 /// "g = fields 6 x 7, B = 1,000 Pa - g."
@@ -169,9 +173,12 @@ fn volume(p: &Part) -> Figure {
     Figure::of(pumped * pressure * 5863, 101_325 * (2 * i128::from(p.t) + 5463))
 }
 
-/// "Corrected concentration, signed, 1/4,096 ppm: 16 (bag Q - air (Q - G)) / Q."
-fn concentration(bag: i128, air: i128, g: i128, q: i128) -> Figure {
-    Figure::of(16 * (bag * q - air * (q - g)), q)
+/// "Corrected concentration, signed, 1/4,096 ppm: 16 (bag Q - air (Q - G)) / Q." Bag, air and G "take both, each at the choice that gives the outer result"
+/// (02, M-104): each on its own, so that there are eight.
+fn concentration(bag: Figure, air: Figure, g: Figure, q: i128) -> Figure {
+    let both = |figure: Figure| [figure.lower, figure.upper];
+    let outcomes = both(bag).map(|bag| both(air).map(|air| both(g).map(|g| 16 * (bag * q - air * (q - g)))));
+    Figure::outermost(outcomes.as_flattened().as_flattened(), q)
 }
 
 /// "Gas volume, microlitres: volume x concentration / 4,096,000."
@@ -189,10 +196,11 @@ fn rate(mass: Figure, distance: u32) -> Figure {
     mass.scaled(1000, i128::from(distance))
 }
 
-/// The volume in ml, the masses in micrograms and the rates in micrograms/km.
+/// The volume in ml, the corrected concentrations in 1/4,096 ppm, the masses in micrograms and the rates in micrograms/km.
 #[derive(Clone, Copy, Debug)]
 pub struct PartResult {
     pub volume: Figure,
+    pub concentration: [Figure; 4],
     pub mass: [Figure; 4],
     pub rate: [Figure; 4],
 }
@@ -202,12 +210,10 @@ pub(crate) const NOX: usize = 2;
 fn part_result(s: &Sheet, p: &Part, r: &Readings) -> PartResult {
     let volume = volume(p);
     let (g, q) = g_and_q(s, r);
-    let mut mass = std::array::from_fn(|gas| {
-        let concentration = concentration(r.bag[gas], r.air[gas], g, q);
-        mass(gas_volume(volume, concentration), p.density[gas])
-    });
+    let concentration: [Figure; 4] = std::array::from_fn(|gas| concentration(r.bag[gas], r.air[gas], g, q));
+    let mut mass = std::array::from_fn(|gas| mass(gas_volume(volume, concentration[gas]), p.density[gas]));
     mass[NOX] = mass[NOX].times(kh(p), 65_536);
-    PartResult { volume, mass, rate: mass.map(|mass| rate(mass, p.distance)) }
+    PartResult { volume, concentration, mass, rate: mass.map(|mass| rate(mass, p.distance)) }
 }
 
 #[derive(Clone, Copy, Debug, PartialEq, Eq)]
@@ -239,7 +245,7 @@ pub struct TestResult {
 }
 
 /// The readings of every part of the class, or the first of the refusals 10 to 14. Parts past the class's number are not read.
-pub(crate) fn judge(s: &Sheet) -> Result<Vec<Readings>, Refusal> {
+fn judge(s: &Sheet) -> Result<Vec<Readings>, Refusal> {
     check(weights(s.class).is_some_and(|weights| weights.len() == s.count as usize), nowhere(10))?;
     let parts = || (1..).zip(&s.parts[..s.count as usize]);
     judge_test(s)?;
@@ -301,8 +307,8 @@ mod known_figures {
         assert_eq!(ends(volume(&part())), (53_647_752, 53_647_753));
         let cold = volume(&Part { t: -300, ..part() });
         assert_eq!(ends(cold), (60_266_845, 60_266_846));
-        let (sheet, nox) = (sheet(145, 0, 0), |x| units(Message::Ppm(x)).unwrap());
-        let readings = Readings { bag: [0, 0, nox(10.0), nox(14_500.0)], air: [0, 0, nox(20.0), 0] };
+        let (sheet, ppm) = (sheet(145, 0, 0), |x| units(Message::Ppm(x)).unwrap());
+        let readings = Readings { bag: [0.0, 0.0, 10.0, 14_500.0].map(ppm), air: [0.0, 0.0, 20.0, 0.0].map(ppm) };
         let (g, q) = g_and_q(&sheet, &readings);
         let below_zero = concentration(readings.bag[NOX], readings.air[NOX], g, q);
         assert_eq!(ends(below_zero), (-32_768, -32_768));
@@ -326,9 +332,11 @@ mod known_figures {
         assert_eq!(ends(fuel(&sheet(134, 10, 10), co2)), (2_100_280, 2_100_280));
     }
 
+    /// 01's, with "1/512 ppm is 0 and 1" of 02, M-104.
     #[test]
     fn readings_and_dilution() {
-        assert_eq!([512.0, 1024.0].map(|part| units(Message::Ppm(1.0 / part))), [Some(1), Some(0)]);
+        let ppm = |x| units(Message::Ppm(x)).map(ends);
+        assert_eq!([512.0, 1024.0].map(|part| ppm(1.0 / part)), [Some((0, 1)); 2]);
         let full = |co| {
             let bag = [Message::Ppm(65_536.0), Message::Ppm(co), Message::Ppm(0.0), Message::Ppm(65_536.0)];
             let mut sheet = sheet(145, 5, 10);
@@ -337,5 +345,41 @@ mod known_figures {
         };
         assert_eq!(full(27_856.0).unwrap_err(), at(13, 2));
         assert!(full(27_855.0).is_ok());
+        // half a unit below 27,856 ppm is that at its upper end
+        assert_eq!(full(27_856.0_f32.next_down()).unwrap_err(), at(13, 2));
+    }
+
+    /// "Refusal 12's 16,777,216 units are judged on the upper end, its 'below zero' still on the float itself, so that no reading's lower end is negative."
+    #[test]
+    fn unusable() {
+        let [ppm, percent] = [Message::Ppm, Message::Percent].map(|measure| move |x| units(measure(x)).map(ends));
+        assert_eq!([ppm(65_536.0), ppm(65_536.0_f32.next_up())], [Some((16_777_216, 16_777_216)), None]);
+        // 6.5536 is no float: the one before it has 16,777,215.58 units, the one after it 16,777,216.80
+        assert_eq!([percent(6.5536), percent(6.5536_f32.next_up())], [Some((16_777_215, 16_777_216)), None]);
+        assert_eq!([ppm(-0.0), ppm(0.0), ppm(0.0_f32.next_up())], [Some((0, 0)), Some((0, 0)), Some((0, 1))]);
+        assert_eq!([ppm(0.0_f32.next_down()), percent(-1.0e-30), ppm(f32::NAN), percent(f32::INFINITY), ppm(f32::MAX)], [None; 5]);
+    }
+
+    /// "Each at the choice that gives the outer result": the least of the bag and of G and the most of the air, and the other way round.
+    #[test]
+    fn outer_results() {
+        let figure = |lower, upper| Figure { lower, upper };
+        // of G half of Q, a unit of air is half a unit
+        assert_eq!(ends(concentration(figure(1000, 1001), figure(1, 2), exactly(128), 256)), (15_984, 16_008));
+        // with 16 for Q it is bag Q - air (Q - G): 32 - 7 x 15, and 48 - 5 x 13
+        assert_eq!(ends(concentration(figure(2, 3), figure(5, 7), figure(1, 3), 16)), (-73, -17));
+        let readings = Readings { bag: [figure(1, 2), figure(3, 4), figure(5, 6), figure(7, 8)], air: [exactly(0); 4] };
+        assert_eq!(ends(g_and_q(&sheet(100, 2, 3), &readings).0), (79, 94));
+    }
+
+    /// "13 is judged on the upper end of G": 10 x 16,777,216 + 20 x 4,411,391 is 20 short of Q.
+    #[test]
+    fn upper_end_of_g() {
+        let nothing = exactly(0);
+        let lean = |co: Figure| {
+            lean_enough(&sheet(100, 1, 20), &Readings { bag: [exactly(4_411_391), co, nothing, exactly(16_777_216)], air: [nothing; 4] })
+        };
+        let between = |lower| Figure { lower, upper: lower + 1 };
+        assert_eq!([exactly(19), between(18), between(19), exactly(20)].map(lean), [true, true, false, false]);
     }
 }

@@ -1,7 +1,7 @@
 //! A figure's two ends, and the stages that round them outward.
 
 /// A figure: "a lower end rounded down and an upper end rounded up".
-#[derive(Clone, Copy, Debug)]
+#[derive(Clone, Copy, Debug, PartialEq, Eq)]
 pub struct Figure {
     pub lower: i128,
     pub upper: i128,
@@ -18,10 +18,15 @@ impl Figure {
         Figure::over(numerator, numerator, divisor)
     }
 
+    /// "The smallest and largest outcome" of some, which are not none; then divided.
+    pub(crate) fn outermost(outcomes: &[i128], divisor: i128) -> Figure {
+        Figure::over(*outcomes.iter().min().unwrap(), *outcomes.iter().max().unwrap(), divisor)
+    }
+
     /// "A product of ends takes the smallest and largest outcome"; then divided.
     pub(crate) fn times(self, other: Figure, divisor: i128) -> Figure {
         let outcomes = [self.lower * other.lower, self.lower * other.upper, self.upper * other.lower, self.upper * other.upper];
-        Figure::over(*outcomes.iter().min().unwrap(), *outcomes.iter().max().unwrap(), divisor)
+        Figure::outermost(&outcomes, divisor)
     }
 
     /// Multiplied by a number that is not negative, and divided.

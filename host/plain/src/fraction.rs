@@ -2,18 +2,31 @@
 
 use std::cmp::Ordering;
 
-/// A fraction that nothing reduces. The widest is a weighted NOx over three parts, of about 900 bits; a product that does not fit stops the run.
+/// A fraction that nothing reduces: the numerator, halved so many times, over the denominator. Halvings stand apart, so that a sum has the more of its
+/// terms' and not both: a float has up to 149. The widest is a weighted NOx over three parts, of about 1,100 bits; a product that does not fit stops the run.
 #[derive(Clone, Copy, Debug)]
 pub struct Fraction {
     numerator: Wide,
     /// Above zero.
     denominator: Wide,
+    halvings: u32,
 }
 
 impl Fraction {
     pub fn new(numerator: i128, denominator: i128) -> Fraction {
         assert!(denominator > 0);
-        Fraction { numerator: Wide::from(numerator), denominator: Wide::from(denominator) }
+        Fraction { numerator: Wide::from(numerator), denominator: Wide::from(denominator), halvings: 0 }
+    }
+
+    /// A half of it, so many times.
+    ///
+    /// ```
+    /// use plain::fraction::Fraction;
+    /// let least = Fraction::new(1, 1).halved(101);
+    /// assert!(Fraction::new(3, 2).halved(100).minus(least).over(least).between(2, 2));
+    /// ```
+    pub fn halved(self, times: u32) -> Fraction {
+        Fraction { halvings: self.halvings + times, ..self }
     }
 
     /// ```
@@ -22,17 +35,21 @@ impl Fraction {
     /// assert!(sixth.between(-1, 0) && !sixth.between(0, 1));
     /// ```
     pub fn plus(self, other: Fraction) -> Fraction {
+        let halvings = self.halvings.max(other.halvings);
+        let [one, two] = [self, other].map(|term| term.numerator.doubled(halvings - term.halvings));
         if self.denominator == other.denominator {
-            return Fraction { numerator: self.numerator.plus(other.numerator), denominator: self.denominator };
+            return Fraction { numerator: one.plus(two), denominator: self.denominator, halvings };
         }
-        Fraction {
-            numerator: self.numerator.times(other.denominator).plus(other.numerator.times(self.denominator)),
-            denominator: self.denominator.times(other.denominator),
-        }
+        let numerator = one.times(other.denominator).plus(two.times(self.denominator));
+        Fraction { numerator, denominator: self.denominator.times(other.denominator), halvings }
     }
 
     pub fn times(self, other: Fraction) -> Fraction {
-        Fraction { numerator: self.numerator.times(other.numerator), denominator: self.denominator.times(other.denominator) }
+        Fraction {
+            numerator: self.numerator.times(other.numerator),
+            denominator: self.denominator.times(other.denominator),
+            halvings: self.halvings + other.halvings,
+        }
     }
 
     pub fn minus(self, other: Fraction) -> Fraction {
@@ -42,12 +59,12 @@ impl Fraction {
     /// For a divisor above zero.
     pub fn over(self, divisor: Fraction) -> Fraction {
         assert!(divisor.numerator.cmp(Wide::from(0)) == Ordering::Greater);
-        self.times(Fraction { numerator: divisor.denominator, denominator: divisor.numerator })
+        self.times(Fraction { numerator: divisor.denominator.doubled(divisor.halvings), denominator: divisor.numerator, halvings: 0 })
     }
 
     /// Whether it is at least the one and at most the other.
     pub fn between(self, lower: i128, upper: i128) -> bool {
-        let multiple = |n: i128| Wide::from(n).times(self.denominator);
+        let multiple = |n: i128| Wide::from(n).times(self.denominator).doubled(self.halvings);
         multiple(lower).cmp(self.numerator) != Ordering::Greater && multiple(upper).cmp(self.numerator) != Ordering::Less
     }
 
@@ -75,7 +92,7 @@ pub fn decimal(text: &str) -> Fraction {
     Fraction::new(format!("{whole}{places}").parse().unwrap(), 10_i128.pow(places.len() as u32))
 }
 
-const WORDS: usize = 16;
+const WORDS: usize = 20;
 
 /// A whole number: its sign, and its magnitude in words, the lowest first. Zero is not negative.
 #[derive(Clone, Copy, Debug, PartialEq, Eq)]
@@ -114,6 +131,13 @@ impl Wide {
             }
         }
         Wide::new(self.negative != other.negative, words)
+    }
+
+    /// Doubled so many times.
+    fn doubled(self, times: u32) -> Wide {
+        let mut words = [0; WORDS];
+        words[times as usize / 64] = 1 << (times % 64);
+        self.times(Wide::new(false, words))
     }
 
     fn plus(self, other: Wide) -> Wide {

@@ -2,7 +2,8 @@
 
 use ylhovesko::bags::{Fuel, Gases, Part, Reading, Sheet, Triple};
 
-use crate::bags::{answer_text, by_plain, of_gas, plain_message, Line};
+use super::two_ends;
+use crate::bags::{answer_text, by_plain, of_gas, Line};
 use crate::Told;
 
 /// A sheet, what is to be seen in it, and what 01 says of it: the refusal, and the figures that are known, each by its place in the answer.
@@ -51,21 +52,21 @@ fn usual() -> Sheet {
     }
 }
 
-fn of_part(sheet: &mut Sheet, place: u32) -> &mut Part {
+pub(super) fn of_part(sheet: &mut Sheet, place: u32) -> &mut Part {
     &mut sheet.parts[place as usize - 1]
 }
 
-fn reading(sheet: &mut Sheet, [place, gas, side]: [u32; 3]) -> &mut Reading {
+pub(super) fn reading(sheet: &mut Sheet, [place, gas, side]: [u32; 3]) -> &mut Reading {
     let part = of_part(sheet, place);
     of_gas(if side == 1 { &mut part.bag } else { &mut part.air }, gas)
 }
 
-fn reading_words([place, gas, side]: [u32; 3]) -> String {
+pub(super) fn reading_words([place, gas, side]: [u32; 3]) -> String {
     format!("{} of {} in part {place}", SIDES[side as usize - 1], GASES[gas as usize - 1])
 }
 
 /// Every reading of a sheet in 01's order: part, gas, bag before air.
-fn readings() -> Vec<[u32; 3]> {
+pub(super) fn readings() -> Vec<[u32; 3]> {
     let mut all = Vec::new();
     for place in 1..=3 {
         for gas in 1..=4 {
@@ -91,22 +92,22 @@ fn row([number, at, within, side]: Told) -> String {
 }
 
 #[derive(Default)]
-struct Cases(Vec<Directed>);
+pub(super) struct Cases(Vec<Directed>);
 
 impl Cases {
     /// The usual sheet, changed.
-    fn refused(&mut self, told: Told, words: &str, change: impl Fn(&mut Sheet)) {
+    pub(super) fn refused(&mut self, told: Told, words: &str, change: impl Fn(&mut Sheet)) {
         let mut sheet = usual();
         change(&mut sheet);
         self.0.push(Directed { words: format!("{}: {words}", row(told)), sheet, told, figures: Vec::new() });
     }
 
     /// The usual sheet, changed.
-    fn taken(&mut self, words: &str, change: impl Fn(&mut Sheet)) {
+    pub(super) fn taken(&mut self, words: &str, change: impl Fn(&mut Sheet)) {
         self.figures(words, change, &[]);
     }
 
-    fn figures(&mut self, words: &str, change: impl Fn(&mut Sheet), figures: &[(usize, i128)]) {
+    pub(super) fn figures(&mut self, words: &str, change: impl Fn(&mut Sheet), figures: &[(usize, i128)]) {
         let mut sheet = usual();
         change(&mut sheet);
         self.0.push(Directed { words: format!("taken: {words}"), sheet, told: [0; 4], figures: figures.to_vec() });
@@ -256,26 +257,6 @@ const UNUSABLE: [(&str, u32, u32); 18] = [
     ("the largest float, in percent", 1, 0x7f7f_ffff),
 ];
 
-/// Messages that are usable, at the limit, at a half of a unit and at zero, and the units that they have.
-const USABLE: [(&str, u32, u32, i128); 16] = [
-    ("65,536 ppm", 0, 0x4780_0000, 16_777_216),
-    ("the float before 65,536 ppm", 0, 0x477f_ffff, 16_777_215),
-    ("the last float to 6.5536 percent", 1, 0x40d1_b717, 16_777_216),
-    ("the float before that", 1, 0x40d1_b716, 16_777_214),
-    ("1/512 ppm", 0, 0x3b00_0000, 1),
-    ("the float before 1/512 ppm", 0, 0x3aff_ffff, 0),
-    ("1/1,024 ppm", 0, 0x3a80_0000, 0),
-    ("3/512 ppm", 0, 0x3bc0_0000, 2),
-    ("1/8,192 percent", 1, 0x3900_0000, 313),
-    ("the float before 1/8,192 percent", 1, 0x38ff_ffff, 312),
-    ("zero ppm", 0, 0, 0),
-    ("minus zero ppm", 0, 0x8000_0000, 0),
-    ("minus zero percent", 1, 0x8000_0000, 0),
-    ("the least float, in percent", 1, 1, 0),
-    ("the last float without a leading bit, in ppm", 0, 0x7f_ffff, 0),
-    ("the first float with a leading bit, in ppm", 0, 0x80_0000, 0),
-];
-
 /// Refusal 12.
 fn messages(cases: &mut Cases) {
     for at in readings() {
@@ -292,17 +273,10 @@ fn messages(cases: &mut Cases) {
             cases.refused([12, place, gas, side], &format!("{words}, {}", reading_words(at)), change);
         }
     }
-    for (words, kind, bits, units) in USABLE {
-        let message = Reading { kind, bits };
-        assert_eq!(plain::bags::units(plain_message(message)), Some(units), "{words}");
-        for at in [[1, 3, 1], [3, 2, 2]] {
-            cases.taken(&format!("{words} is {units} units, {}", reading_words(at)), |s| *reading(s, at) = message);
-        }
-    }
 }
 
 /// So many units of 1/256 ppm.
-fn units(count: u32) -> Reading {
+pub(super) fn units(count: u32) -> Reading {
     Reading::ppm(count as f32 / 256.0)
 }
 
@@ -455,7 +429,7 @@ fn order(cases: &mut Cases) {
 pub fn cases() -> Vec<Directed> {
     let mut cases = Cases::default();
     let groups: [fn(&mut Cases); 9] = [classes, ranges, products, messages, dilution, humidity, verdicts, known, order];
-    groups.iter().for_each(|group| group(&mut cases));
+    groups.iter().chain(&two_ends::GROUPS).for_each(|group| group(&mut cases));
     cases.0
 }
 
