@@ -1,14 +1,14 @@
--- 01, Refusal numbers, and 02, M-103, for 16 and 17: the table, row by row. A place is up to three numbers; `none` is the table's "none".
+-- 01, Refusal numbers, and 02, M-103, for 16 and 17 and M-105 for 18 and 21: the table, row by row. A place is up to three numbers; `none` is the table's "none".
 use Prim.Native.Nat.{ℕ}
 use Rattle.refusal.specs.declared.Refusal.{Refusal}
-use Rattle.refusal.specs.declared.Refusal.the-variants.{Header, Count, Length, Second, Vehicle, Ratio, PowerToMass, Room, TooClose, Parts, Value, Reading, Dilution, Humidity, PairCounts, ReferenceMass, RotatingOrSpeed}
+use Rattle.refusal.specs.declared.Refusal.the-variants.{Header, Count, Length, Second, Vehicle, Ratio, PowerToMass, Room, TooClose, Parts, Value, Reading, Dilution, Humidity, PairCounts, ReferenceMass, RotatingOrSpeed, LotSize, LotRecord}
 use Rattle.refusal.specs.declared.Place.{Place}
 use Rattle.refusal.specs.declared.Entry.{Entry}
 
 abbrev pub none : Place
 none = record { at = 0; within = 0; side = 0 }
 
--- a second, a part, a gear or a field of the vehicle sheet
+-- a second, a part, a gear, a field of the vehicle sheet or a record of a lot
 abbrev pub at : ℕ → Place
 at k = record { at = k; within = 0; side = 0 }
 
@@ -43,6 +43,8 @@ entryOf (Humidity part) = 14 given at part
 entryOf PairCounts = 15 given none
 entryOf ReferenceMass = 16 given none
 entryOf RotatingOrSpeed = 17 given none
+entryOf LotSize = 18 given none
+entryOf (LotRecord index) = 21 given at index
 
 abbrev pub numberOf : Refusal → ℕ
 numberOf r = entryOf r .number

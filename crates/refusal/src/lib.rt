@@ -1,10 +1,10 @@
-// The table of refusals (01, Refusal numbers; 16 and 17 by 02, M-103): one case for each row, in the table's order. A new row is a line of this enum, of
+// The table of refusals (01, Refusal numbers; 16 and 17 by 02, M-103, 18 and 21 by M-105): one case for each row, in the table's order. A new row is a line of this enum, of
 // specs/Table.antt and of `entry_of`, with its line in each of the two lists of that function's proof.
 ghost use mathlib.Core.Path.{_≡_};
 ghost use Rattle.refusal.specs.Table.{_given_, onSide, entryOf, numberOf, placeOf};
 ghost use Rattle.refusal.specs.Judging.{checked};
 
-// Seconds and parts count from 1. A field has its number in the sheet's listing; the gases are 1 HC, 2 CO, 3 NOx, 4 CO2; the sides 1 bag, 2 air.
+// Seconds and parts count from 1, the records of a lot from 0. A field has its number in the sheet's listing; the gases are 1 HC, 2 CO, 3 NOx, 4 CO2; the sides 1 bag, 2 air.
 pub enum Refusal {
     Header,
     Count,
@@ -23,9 +23,11 @@ pub enum Refusal {
     PairCounts,
     ReferenceMass,
     RotatingOrSpeed,
+    LotSize,
+    LotRecord { index: u32 },
 }
 
-// Where a refusal points: `at` is the second, the part, the gear or the vehicle sheet's field, `within` the field or the gas of a part, and
+// Where a refusal points: `at` is the second, the part, the gear, the vehicle sheet's field or the record of a lot, `within` the field or the gas of a part, and
 // `side` the bag or the air. 0 stands where the table has nothing.
 pub struct Place {
     pub at: u32,
@@ -70,6 +72,8 @@ pub fn entry_of(refusal: Refusal) -> Entry
         Refusal::PairCounts => row(15, 0, 0, 0),
         Refusal::ReferenceMass => row(16, 0, 0, 0),
         Refusal::RotatingOrSpeed => row(17, 0, 0, 0),
+        Refusal::LotSize => row(18, 0, 0, 0),
+        Refusal::LotRecord { index } => row(21, index, 0, 0),
     }
 }
 
