@@ -11,7 +11,8 @@ use Rattle.reading.specs.Gas.{HC, CO, NOx, CO2, gasNumber}
 use Rattle.weigh.specs.declared.Verdict.the-variants.{Pass, Fail, Undecided}
 use Rattle.preset.specs.Preset.{petrolOf, dieselOf}
 use Rattle.outcome.specs.Outcome.{outcomeOf, chosenOf}
-use Rattle.crossing.specs.Sheet.{messageOf, verdictNumber}
+use Rattle.record.specs.Record.{verdictNumber}
+use Rattle.crossing.specs.Sheet.{messageOf}
 use Rattle.claims.specs.Figures.{Figure, _gives_}
 use Rattle.claims.specs.Table.{outcome}
 

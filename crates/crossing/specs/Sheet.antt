@@ -1,5 +1,4 @@
 -- The bag sheet and the result of a test as they cross the boundary: in numbers alone.
-use Prim.Native.Nat.{ℕ}
 use mathlib.Core.Bool.{cond}
 use lib.Dec.{eqb}
 use lib.IntN.{pos}
@@ -12,18 +11,15 @@ use Rattle.reading.specs.declared.Message.the-variants.{Ppm, Percent, OverRange
 use Rattle.reading.specs.declared.Bag.{Bag}
 use Rattle.bag.specs.declared.Part.{Part}
 use Rattle.bag.specs.declared.BagSheet.{BagSheet}
-use Rattle.weigh.specs.declared.Verdict.{Verdict}
-use Rattle.weigh.specs.declared.Verdict.the-variants.{Pass, Fail, Undecided}
-use Rattle.emission.specs.declared.Verdicts.{Verdicts}
 use Rattle.emission.specs.declared.Answer.{Answer}
 use Rattle.emission.specs.declared.Answer.the-variants.{Result, Refused}
 use Rattle.emission.specs.Test.{nothing, noPart}
+use Rattle.record.specs.Record.{recordOf}
 use Rattle.outcome.specs.declared.Outcome.{Outcome}
 use Rattle.crossing.specs.declared.MessageNumbers.{MessageNumbers}
 use Rattle.crossing.specs.declared.BagNumbers.{BagNumbers}
 use Rattle.crossing.specs.declared.SheetPart.{SheetPart}
 use Rattle.crossing.specs.declared.Sheet.{Sheet}
-use Rattle.crossing.specs.declared.VerdictNumbers.{VerdictNumbers}
 use Rattle.crossing.specs.declared.TestOutcome.{TestOutcome}
 use Rattle.outcome.specs.Outcome.{outcomeOf}
 
@@ -67,21 +63,6 @@ sheetOf s =
     }
 
 -- ---- out
--- 0 is no verdict: it stands beside a refusal
-abbrev pub verdictNumber : Verdict → ℕ
-verdictNumber Pass = 1
-verdictNumber Fail = 2
-verdictNumber Undecided = 3
-
-unfoldable pub verdictNumbers : Verdicts → VerdictNumbers
-verdictNumbers v =
-    record {
-      hc = verdictNumber (v .hc);
-      co = verdictNumber (v .co);
-      nox = verdictNumber (v .nox);
-      co2 = verdictNumber (v .co2);
-    }
-
 -- beside a refusal all figures are 0, and there is no verdict
 unfoldable pub withNothing : Outcome → TestOutcome
 withNothing outcome =
@@ -93,13 +74,14 @@ withNothing outcome =
       fuel = exactly (pos 0);
     }
 
+-- weighted and verdicts are those of the result record, which a lot reads
 abbrev pub resultOut : Answer → TestOutcome
 resultOut (Result result) =
     record {
       outcome = outcomeOf Accepted;
       parts = result .parts;
-      weighted = result .weighted;
-      verdicts = verdictNumbers (result .verdicts);
+      weighted = recordOf result .weighted;
+      verdicts = recordOf result .verdicts;
       fuel = result .fuel;
     }
 resultOut (Refused refusal) = withNothing (outcomeOf (judged.Refused refusal))

@@ -10,16 +10,15 @@ use bag::Triple;
 use emission::Answer;
 use emission::Parts;
 use emission::TestResult;
-use emission::Verdicts;
 use outcome::Outcome;
 use part::Gases;
 use reading::Bag;
 use reading::Message;
+use record::VerdictNumbers;
 use refusal::Judged;
-use weigh::Verdict;
 ghost use mathlib.Core.Path.{_≡_};
 ghost use Rattle.emission.specs.declared.Answer.the-variants.{Result};
-ghost use Rattle.crossing.specs.Sheet.{messageOf, bagOf, sheetPartOf, sheetOf, verdictNumber, verdictNumbers, withNothing, resultOut};
+ghost use Rattle.crossing.specs.Sheet.{messageOf, bagOf, sheetPartOf, sheetOf, withNothing, resultOut};
 
 // A message of the analyser: kind 0 ppm, 1 percent, 2 over range, and every other not fitted. The float comes as its bits.
 #[repr(C)]
@@ -66,16 +65,8 @@ pub struct Sheet {
     pub third: SheetPart,
 }
 
-// 1 pass, 2 fail, 3 undecided; 0 is no verdict, so that beside a refusal no gas passes.
-#[repr(C)]
-pub struct VerdictNumbers {
-    pub hc: u32,
-    pub co: u32,
-    pub nox: u32,
-    pub co2: u32,
-}
-
-// `emission::TestResult` beside the outcome; all 0 where that is a refusal.
+// `emission::TestResult` beside the outcome, its weighted ends and verdicts as the result record has them. All is 0 where the outcome is a refusal, and 0 is no
+// verdict, so that no gas passes then.
 #[repr(C)]
 pub struct TestOutcome {
     pub outcome: Outcome,
@@ -145,31 +136,6 @@ pub fn sheet_of(s: Sheet) -> BagSheet
     }
 }
 
-fn verdict_number(v: Verdict) -> u32
-    ensures { λ r. ⌜ r ≡ verdictNumber v ⌝ }
-{
-    match v {
-        Verdict::Pass => 1,
-        Verdict::Fail => 2,
-        Verdict::Undecided => 3,
-    }
-}
-
-fn verdict_numbers(v: Verdicts) -> VerdictNumbers
-    ensures { λ r. ⌜ r ≡ verdictNumbers v ⌝ }
-{
-    let hc = v.hc;
-    let co = v.co;
-    let nox = v.nox;
-    let co2 = v.co2;
-    VerdictNumbers {
-        hc: verdict_number(hc),
-        co: verdict_number(co),
-        nox: verdict_number(nox),
-        co2: verdict_number(co2),
-    }
-}
-
 fn with_nothing(outcome: Outcome) -> TestOutcome
     ensures { λ r. ⌜ r ≡ withNothing outcome ⌝ }
 {
@@ -195,13 +161,15 @@ fn with_result(result: TestResult) -> TestOutcome
     ensures { λ r. ⌜ r ≡ resultOut (Result result) ⌝ }
 {
     let parts = result.parts;
-    let weighted = result.weighted;
     let fuel = result.fuel;
+    let record = record::record_of(result);
+    let weighted = record.weighted;
+    let verdicts = record.verdicts;
     TestOutcome {
         outcome: outcome::outcome_of(Judged::Accepted),
         parts,
         weighted,
-        verdicts: verdict_numbers(result.verdicts),
+        verdicts,
         fuel,
     }
 }

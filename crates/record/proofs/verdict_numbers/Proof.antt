@@ -1,10 +1,10 @@
--- `crossing::verdict_numbers` meets its contract. Assumes nothing.
-use Rattle.crossing.specs.Sheet.{verdictNumbers}
-use Rattle.crossing.proofs.verdict_numbers.Statement.{statement}
-use Rattle.crossing.proofs.verdict_numbers.Tie as tie
+-- `record::verdict_numbers` meets its contract. Assumes nothing.
+use Rattle.record.specs.Record.{eachNumber, verdictNumbers}
+use Rattle.record.proofs.verdict_numbers.Statement.{statement}
+use Rattle.record.proofs.verdict_numbers.Tie as tie
 
 returns : tie.Need-returns
-unfolding verdictNumbers
+unfolding verdictNumbers eachNumber
 returns c =
     rw (c .before .before .before .verdict-number .ensures, c .before .before .verdict-number2 .ensures, c .before .verdict-number3 .ensures, c .verdict-number4 .ensures)
 
