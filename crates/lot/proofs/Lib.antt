@@ -1,0 +1,4 @@
+pub mod Each
+pub mod Sound
+pub mod Kept
+mod Examples
