@@ -126,6 +126,15 @@ impl Verdict {
             other => unreachable!("the core gives verdict {other} of three"),
         }
     }
+
+    /// As it crosses the boundary.
+    pub fn number(self) -> u32 {
+        match self {
+            Verdict::Pass => 1,
+            Verdict::Fail => 2,
+            Verdict::Undecided => 3,
+        }
+    }
 }
 
 /// The result of a test: weighted gases in micrograms/km, the fuel in microlitres per 100 km. A third part that the class does not have is all 0.
