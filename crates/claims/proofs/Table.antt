@@ -110,7 +110,7 @@ both : {a b : Bool} → a ≡ true → b ≡ true → (a && b) ≡ true
 both p q = rw (p, q)
 
 -- a place of the same number further on
-further : (number a b : ℕ) → suc a ≤ b → notAfter (outcome number a 0 0) (outcome number b 0 0) ≡ true
+pub further : (number a b : ℕ) → suc a ≤ b → notAfter (outcome number a 0 0) (outcome number b 0 0) ≡ true
 further number a b h = rw (eq-eqb number number refl, lt-ltb a b h) (or-true (ltb number number))
 
 -- places that count on, and what comes after them

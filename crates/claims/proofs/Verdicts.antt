@@ -26,7 +26,7 @@ use Rattle.claims.proofs.Accepted.{accepted-result}
 use Rattle.claims.proofs.Contained.{contained}
 
 -- a test that failed, strictly
-above : {a b : ℤ} → leZ a b ≡ false → b <ℤ a
+pub above : {a b : ℤ} → leZ a b ≡ false → b <ℤ a
 above {a} {b} e = ⊎-elim (λ p. absurd (rw e at (p .le))) (λ p. p) (≤-or-< a b)
 
 module _ {e : Ends} {q : Fraction} (h : Between e q) (limit : ℕ) where

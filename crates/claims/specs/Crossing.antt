@@ -4,7 +4,7 @@ use mathlib.Core.Bool.{true, false}
 use mathlib.Core.List.{List, [], _∷_}
 use Prim.Native.Nat.{ℕ, _*_}
 use lib.Ieee.{ofBits, binary32}
-use Rattle.refusal.specs.declared.Refusal.the-variants.{Header, Second, Vehicle, Ratio, Value, Reading, Humidity, ReferenceMass, RotatingOrSpeed}
+use Rattle.refusal.specs.declared.Refusal.the-variants.{Header, Second, Vehicle, Ratio, Value, Reading, Humidity, ReferenceMass, RotatingOrSpeed, LotSize, LotRecord}
 use Rattle.refusal.specs.declared.Judged.the-variants.{Accepted, Refused}
 use Rattle.reading.specs.declared.Message.the-variants.{Ppm, Percent, OverRange, NotFitted}
 use Rattle.reading.specs.Gas.{HC, CO, NOx, CO2, gasNumber}
@@ -48,6 +48,9 @@ crossing =
     ∷ (outcomeOf (Refused (Humidity 2)) gives outcome 14 2 0 0)
     ∷ (outcomeOf (Refused ReferenceMass) gives outcome 16 0 0 0)
     ∷ (outcomeOf (Refused RotatingOrSpeed) gives outcome 17 0 0 0)
+    ∷ (outcomeOf (Refused LotSize) gives outcome 18 0 0 0)
+    ∷ (outcomeOf (Refused (LotRecord 0)) gives outcome 21 0 0 0)
+    ∷ (outcomeOf (Refused (LotRecord 255)) gives outcome 21 255 0 0)
     ∷ (chosenOf Accepted false gives 1)
     ∷ (chosenOf Accepted true gives 2)
     ∷ (chosenOf (Refused Header) true gives 0)
