@@ -1,9 +1,10 @@
 //! The bag sheet.
 
 use crate::field::{Form, Key, Range};
-use crate::refusals::{named, Found, GASES};
+use crate::files::Given;
+use crate::refusals::{self, named, Found, GASES};
 use crate::sheet::{Section, Sheet};
-use ylhovesko::bags::{Fuel, Gases, Part, Sheet as BagSheet, Triple};
+use ylhovesko::bags::{result, Fuel, Gases, Part, Sheet as BagSheet, TestResult, Triple};
 use ylhovesko::Refusal;
 
 /// The first word of its file.
@@ -137,6 +138,12 @@ fn part_of(section: &Section) -> Part {
         bag: of_gases("bag", |key| section.reading(key)),
         air: of_gases("air", |key| section.reading(key)),
     }
+}
+
+/// The result of a bag sheet among other files; or its refusal in words, with its file.
+pub fn result_of(bags: &Given<BagSheet>) -> Result<TestResult, String> {
+    let refused = |refusal| format!("{}: {}", bags.path.display(), refusals::line(refusal, &found(&bags.text, refusal)));
+    result(bags.value).map_err(refused)
 }
 
 /// Where a refusal of a bag sheet lies, and what stands there.

@@ -13,16 +13,11 @@ use crate::{Failure, Told};
 use std::ffi::OsString;
 use ylhovesko::gear::judge_trace;
 
-const HEADING: &str = "second,speed_tenths,phase,no_gearshift,no_first";
+/// The first line of a table, by which it is known.
+pub const HEADING: &str = "second,speed_tenths,phase,no_gearshift,no_first";
 
 /// As the table names them, in the order of the trace's flags.
 const PHASES: [&str; 4] = ["stop", "acc", "cruise", "dec"];
-
-/// Whether the bytes are a table's by its heading.
-pub fn is_table(bytes: &[u8]) -> bool {
-    let text = String::from_utf8_lossy(bytes);
-    text.trim_start_matches('\u{feff}').lines().next().is_some_and(|first| first.trim() == HEADING)
-}
 
 fn mark(word: &str) -> Option<bool> {
     match word {

@@ -5,25 +5,27 @@ use ylhovesko::Refusal;
 /// In the paper's order.
 pub const GASES: [&str; 4] = ["HC", "CO", "NOx", "CO2"];
 
-/// "Given when", row by row.
-const ROWS: [&str; 17] = [
-    "under 8 bytes, mark, zero byte or version wrong",
-    "count not 1 to 2,000",
-    "length not 8 + 4 x count",
-    "speed, flags or fourth byte wrong",
-    "vehicle sheet out of range",
-    "ndv not below that of the gear before",
-    "power to mass",
-    "start past the buffer, or under 2 x count bytes there",
-    "too close to call",
-    "class not 1 to 3, or wrong number of parts",
-    "bag sheet value",
-    "reading unusable",
-    "G not below Q",
-    "H above 30",
-    "normal and reduced counts differ",
-    "reference mass outside the table",
-    "rotating mass or speed outside",
+/// "Given when", row by row. The numbers that are left out are given to nothing yet.
+const ROWS: [(u32, &str); 19] = [
+    (1, "under 8 bytes, mark, zero byte or version wrong"),
+    (2, "count not 1 to 2,000"),
+    (3, "length not 8 + 4 x count"),
+    (4, "speed, flags or fourth byte wrong"),
+    (5, "vehicle sheet out of range"),
+    (6, "ndv not below that of the gear before"),
+    (7, "power to mass"),
+    (8, "start past the buffer, or under 2 x count bytes there"),
+    (9, "too close to call"),
+    (10, "class not 1 to 3, or wrong number of parts"),
+    (11, "bag sheet value"),
+    (12, "reading unusable"),
+    (13, "G not below Q"),
+    (14, "H above 30"),
+    (15, "normal and reduced counts differ"),
+    (16, "reference mass outside the table"),
+    (17, "rotating mass or speed outside"),
+    (18, "more than 256 records in a lot"),
+    (21, "lower end above upper end, or an end beyond 10^13 micrograms/km"),
 ];
 
 /// Where a refusal lies and what stands there, in words; empty where there is neither.
@@ -39,9 +41,14 @@ pub fn named(list: &[&'static str], number: u32) -> &'static str {
     (number as usize).checked_sub(1).and_then(|i| list.get(i)).copied().unwrap_or("unknown")
 }
 
+/// "Given when" of a number.
+fn given_when(number: u32) -> &'static str {
+    ROWS.iter().find(|(row, _)| *row == number).map_or("unknown", |(_, words)| words)
+}
+
 /// `refused: 5 vehicle sheet out of range, field 1, power: 3,001; 1 to 3,000 in 0.1 kW`.
 pub fn line(refusal: Refusal, found: &Found) -> String {
-    let mut line = format!("refused: {} {}", refusal.number, named(&ROWS, refusal.number));
+    let mut line = format!("refused: {} {}", refusal.number, given_when(refusal.number));
     for (before, words) in [(", ", &found.place), (": ", &found.value)] {
         if !words.is_empty() {
             line += before;

@@ -8,6 +8,26 @@ use ylhovesko::bags::{Ends, Gases, PartResult, Sheet, TestResult, Verdict};
 /// are about 7 % less; docs/DECISIONS.md says why the core has the regulation's.
 const REFERENCE: &str = "at 20 degrees C and 101.325 kPa";
 
+/// The first line of a result in comma-separated values, by which a stored one is known.
+pub const HEADING: &str = "part,figure,gas,lower end,upper end,limit,verdict";
+
+/// The figure of a weighted gas in such a result.
+pub const WEIGHTED: &str = "weighted in micrograms/km";
+
+/// A gas of a test weighted over its parts: its ends and its limit in micrograms/km, and how it stands to the limit.
+#[derive(Clone, Copy)]
+pub struct Weighted {
+    pub ends: Ends,
+    pub limit: u64,
+    pub verdict: Verdict,
+}
+
+/// The weighted gases of a test, in the paper's order.
+pub fn weighted_of(limits: Gases<u64>, result: &TestResult) -> [Weighted; 4] {
+    let (ends, limits, verdicts) = (result.weighted.each(), limits.each(), result.verdicts.each());
+    std::array::from_fn(|gas| Weighted { ends: ends[gas], limit: limits[gas], verdict: verdicts[gas] })
+}
+
 fn both(ends: Ends) -> String {
     format!("{:>20} {:>20}", grouped(ends.lower.into()), grouped(ends.upper.into()))
 }
@@ -17,7 +37,8 @@ pub fn heading(title: &str) -> String {
     format!("{title:<30}{:>20} {:>20}", "lower end", "upper end")
 }
 
-fn line(name: &str, ends: Ends) -> String {
+/// A figure of such a table.
+pub fn line(name: &str, ends: Ends) -> String {
     format!("{:<30}{}", format!("    {name}"), both(ends))
 }
 
@@ -34,7 +55,7 @@ fn part_lines(number: usize, part: PartResult) -> String {
     format!("{heading}\n  volume, ml\n{volume}\n{mass}{rate}\n")
 }
 
-fn word(verdict: Verdict) -> &'static str {
+pub fn word(verdict: Verdict) -> &'static str {
     match verdict {
         Verdict::Pass => "pass",
         Verdict::Fail => "fail",
@@ -42,16 +63,20 @@ fn word(verdict: Verdict) -> &'static str {
     }
 }
 
-fn verdict(verdict: Verdict) -> String {
+/// The verdict that has this word.
+pub fn verdict_of(written: &str) -> Option<Verdict> {
+    [Verdict::Pass, Verdict::Fail, Verdict::Undecided].into_iter().find(|verdict| word(*verdict) == written)
+}
+
+fn told(verdict: Verdict) -> String {
     let why = if verdict == Verdict::Undecided { ": the limit lies between the ends" } else { "" };
     format!("{}{why}", word(verdict))
 }
 
 fn weighted_lines(limits: Gases<u64>, result: &TestResult) -> String {
     let mut lines = format!("{} {:>20}  verdict\n", heading("Weighted, micrograms/km"), "limit");
-    let told = result.weighted.each().into_iter().zip(limits.each()).zip(result.verdicts.each());
-    for (gas, ((ends, limit), judged)) in GASES.iter().zip(told) {
-        lines += &format!("{} {:>20}  {}\n", line(gas, ends), grouped(limit.into()), verdict(judged));
+    for (gas, Weighted { ends, limit, verdict }) in GASES.iter().zip(weighted_of(limits, result)) {
+        lines += &format!("{} {:>20}  {}\n", line(gas, ends), grouped(limit.into()), told(verdict));
     }
     lines
 }
@@ -86,11 +111,10 @@ fn csv_of_part(number: usize, part: PartResult) -> String {
 
 /// The result in comma-separated values, a line a figure.
 pub fn csv(sheet: &Sheet, result: &TestResult) -> String {
-    let mut lines = "part,figure,gas,lower end,upper end,limit,verdict\n".to_string();
+    let mut lines = format!("{HEADING}\n");
     lines.extend((1..).zip(given_parts(sheet, result)).map(|(number, part)| csv_of_part(number, *part)));
-    let told = result.weighted.each().into_iter().zip(sheet.limits.each()).zip(result.verdicts.each());
-    for (gas, ((ends, limit), judged)) in GASES.iter().zip(told) {
-        lines += &csv_line("", "weighted in micrograms/km", gas, ends, &format!("{limit},{}", word(judged)));
+    for (gas, Weighted { ends, limit, verdict }) in GASES.iter().zip(weighted_of(sheet.limits, result)) {
+        lines += &csv_line("", WEIGHTED, gas, ends, &format!("{limit},{}", word(verdict)));
     }
     lines + &csv_line("", "fuel in microlitres per 100 km", "", result.fuel, ",")
 }

@@ -3,7 +3,7 @@
 use crate::arguments::Arguments;
 use crate::files::{self, Given};
 use crate::trace::Trace;
-use crate::{bags, gears, picture, refusals, result_sheet, row, vehicle, Failure, Told};
+use crate::{bags, gears, picture, result_sheet, row, vehicle, Failure, Told};
 use row::Row;
 use std::ffi::OsString;
 use std::path::{Path, PathBuf};
@@ -69,11 +69,7 @@ impl Test {
             let path = if gears::is_of_vehicle(refusal) { &self.vehicle.path } else { &trace.path };
             format!("{}: {}", path.display(), gears::line(&trace.bytes, &self.vehicle, refusal))
         })?;
-        let result = ylhovesko::bags::result(self.bags.value).map_err(|refusal| {
-            let line = refusals::line(refusal, &bags::found(&self.bags.text, refusal));
-            format!("{}: {line}", self.bags.path.display())
-        })?;
-        Ok((rows, result))
+        Ok((rows, bags::result_of(&self.bags)?))
     }
 
     fn has_a_trace_for_each_part(&self) -> Result<(), Failure> {

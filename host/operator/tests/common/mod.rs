@@ -2,6 +2,8 @@
 // Each of the tests' programs uses its own part of this.
 #![allow(dead_code)]
 
+pub mod lots;
+
 use std::fs;
 use std::path::{Path, PathBuf};
 use std::process::Command;
@@ -54,7 +56,7 @@ pub fn edited(name: &str, from: &str, to: &str) -> String {
 }
 
 pub fn grouped(number: i64) -> String {
-    let digits = number.abs().to_string();
+    let digits = number.unsigned_abs().to_string();
     let groups: Vec<&str> = digits.as_bytes().rchunks(3).rev().map(|group| std::str::from_utf8(group).unwrap()).collect();
     format!("{}{}", if number < 0 { "-" } else { "" }, groups.join(","))
 }
