@@ -2,6 +2,8 @@
 
 use std::cmp::Ordering;
 
+use crate::figure::Figure;
+
 /// A fraction that nothing reduces: the numerator, halved so many times, over the denominator. Halvings stand apart, so that a sum has the more of its
 /// terms' and not both: a float has up to 149. The widest is a weighted NOx over three parts, of about 1,100 bits; a product that does not fit stops the run.
 #[derive(Clone, Copy, Debug)]
@@ -78,6 +80,30 @@ impl Fraction {
     /// ```
     pub fn rounds_to(self, lower: i128, upper: i128) -> bool {
         self.between(lower, upper) && !self.between(lower + 1, upper) && !self.between(lower, upper - 1)
+    }
+
+    /// What [`Fraction::rounds_to`] asks for, of a fraction that lies between the two.
+    ///
+    /// ```
+    /// use plain::figure::Figure;
+    /// use plain::fraction::Fraction;
+    /// assert_eq!(Fraction::new(-7, 2).rounded(-100, 100), Figure { lower: -4, upper: -3 });
+    /// assert_eq!(Fraction::new(-8, 2).rounded(-4, 100), Figure { lower: -4, upper: -4 });
+    /// ```
+    pub fn rounded(self, mut lower: i128, mut upper: i128) -> Figure {
+        assert!(self.between(lower, upper), "a fraction that does not lie between {lower} and {upper}");
+        while upper - lower > 1 {
+            let middle = (lower + upper) / 2;
+            if self.between(middle, upper) {
+                lower = middle;
+            } else {
+                upper = middle;
+            }
+        }
+        match [lower, upper].into_iter().find(|&end| self.between(end, end)) {
+            Some(end) => Figure { lower: end, upper: end },
+            None => Figure { lower, upper },
+        }
     }
 }
 

@@ -10,6 +10,7 @@ pub mod exact;
 pub mod figure;
 pub mod fraction;
 pub mod gear;
+pub mod lot;
 pub mod preset;
 pub mod trace;
 
@@ -17,7 +18,7 @@ pub mod trace;
 #[derive(Clone, Copy, Debug, PartialEq, Eq)]
 pub struct Refusal {
     pub number: u32,
-    /// The second, the part, the gear or the vehicle sheet's field.
+    /// The second, the part, the gear or the vehicle sheet's field; or the record of a lot, from 0 on.
     pub at: u32,
     /// The field or the gas of a part.
     pub within: u32,
