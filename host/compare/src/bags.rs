@@ -84,9 +84,9 @@ fn figure(word: &str) -> i128 {
     }
 }
 
-type Words<'a> = std::str::Split<'a, char>;
+pub(crate) type Words<'a> = std::str::Split<'a, char>;
 
-fn number<T: std::str::FromStr>(words: &mut Words) -> T {
+pub(crate) fn number<T: std::str::FromStr>(words: &mut Words) -> T {
     let word = words.next().expect("the line goes on");
     word.parse().ok().unwrap_or_else(|| panic!("no number: {word}"))
 }

@@ -18,9 +18,10 @@ pub const MEASURES: [(u32, u64); 2] = [(0, 256), (1, 2_560_000)];
 pub const MOST: u64 = 16_777_216;
 
 /// The gases whose mass is their reading.
-const WEIGHED: [u32; 3] = [1, 2, 4];
+pub const WEIGHED: [u32; 3] = [1, 2, 4];
 
-fn sheet() -> Sheet {
+/// The sheet on which a mass is its reading, with every reading zero. A rate is its mass.
+pub fn sheet() -> Sheet {
     let zeros = Gases::of([Reading::ppm(0.0); 4]);
     let part = Part {
         pump: 2560,
