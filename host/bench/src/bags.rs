@@ -8,7 +8,8 @@ use crate::{at, check, nowhere};
 const MOST_UNITS: f64 = 16_777_216.0;
 const NOX: usize = 2;
 
-fn ends(lower: i64, upper: i64, divisor: i64) -> Ends {
+/// Both over a divisor above zero, rounded outward.
+pub(crate) fn ends(lower: i64, upper: i64, divisor: i64) -> Ends {
     Ends { lower: lower.div_euclid(divisor), upper: -(-upper).div_euclid(divisor) }
 }
 

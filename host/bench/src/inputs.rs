@@ -1,8 +1,10 @@
 //! What is timed.
 
+use compare::lot::FARTHEST;
 use compare::random::Random;
-use ylhovesko::bags::{petrol, result, Gases, Part, Reading, Sheet};
+use ylhovesko::bags::{petrol, result, Ends, Gases, Part, Reading, Sheet};
 use ylhovesko::gear::Vehicle;
+use ylhovesko::lot::{Record, MOST};
 
 /// The machine of Annex 13.
 pub const MACHINE: Vehicle =
@@ -84,4 +86,28 @@ pub fn sheets(count: usize) -> [(&'static str, Vec<Sheet>); 2] {
 pub fn masses(count: usize) -> Vec<(u32, u32)> {
     let mut random = Random::new(1);
     (0..count).map(|_| (random.from(951, 5050), random.from(0, 50_000))).collect()
+}
+
+/// Ends from the whole of their range and verdicts with no order to them, so that no branch can be foreseen.
+fn random_record(random: &mut Random) -> Record {
+    let mut end = || random.below(2 * FARTHEST as u64 + 1) as i64 - FARTHEST;
+    let weighted = [(); 4].map(|()| {
+        let (one, other) = (end(), end());
+        Ends { lower: one.min(other), upper: one.max(other) }
+    });
+    Record { weighted: Gases::of(weighted), verdicts: Gases::of([(); 4].map(|()| random.from(1, 3))) }
+}
+
+/// So many lots of the greatest size, from one source of records.
+fn full_lots(count: usize, mut records: impl Iterator<Item = Record>) -> Vec<Vec<Record>> {
+    (0..count).map(|_| records.by_ref().take(MOST).collect()).collect()
+}
+
+/// The kinds of records, with so many lots: the results of ordinary tests, and any that are accepted.
+pub fn lots(count: usize) -> [(&'static str, Vec<Vec<Record>>); 2] {
+    let (mut tests, mut random) = (Random::new(1), Random::new(1));
+    let results = std::iter::repeat_with(|| result(ordinary(&mut tests))).flatten();
+    let usual = full_lots(count, results.map(|result| Record::of(&result)));
+    let odd = full_lots(count, std::iter::repeat_with(|| random_record(&mut random)));
+    [("ordinary", usual), ("random", odd)]
 }
