@@ -1,6 +1,6 @@
 -- The lot sheet: the three counts add up to the number of records, the index is that of the first record with the greatest upper end, the exact mean lies between its
 -- ends, and the records of accepted tests are taken. Assumes nothing.
-use mathlib.Core.Path.{_≡_, refl, sym, ap, _∙_, subst}
+use mathlib.Core.Path.{_≡_, refl, ap, _∙_, subst}
 use mathlib.Core.Bool.{Bool, true, false, cond, false≢true}
 use mathlib.Core.List.{List, [], _∷_}
 use mathlib.Core.Option.{Option, none, some}
@@ -23,11 +23,11 @@ use Rattle.reading.specs.Gas.{Gas, isNOx}
 use Rattle.bag.proofs.Sound.{accepted-sound}
 use Rattle.stage.specs.Ranges.{largestMass, largestNoxMass}
 use Rattle.part.specs.Part.{endsAt}
-use Rattle.emission.specs.Test.{partsIn, resultOf}
+use Rattle.emission.specs.Test.{resultOf}
 use Rattle.emission.proofs.Ranges.{parts-ranges, result-ranges, weighted-sizes}
 use Rattle.record.specs.declared.Record.{Record}
 use Rattle.record.specs.Record.{recordOf}
-use Rattle.tally.specs.Entries.{mostEnd, leastEnd, faultyEnds, sumOver, greatestOf, worstOf, gasSheet}
+use Rattle.tally.specs.Entries.{mostEnd, leastEnd, sumOver, greatestOf, worstOf, gasSheet}
 use Rattle.tally.proofs.Sound.{taken-ends}
 use Rattle.tally.proofs.Counts.{counts-add-up}
 use Rattle.lot.specs.declared.LotSheet.{LotSheet}

@@ -4,9 +4,8 @@ use mathlib.Core.Path.{_≡_}
 use mathlib.Core.List.{List, [], _∷_}
 use Prim.Native.Nat.{ℕ, _+_, _<_}
 use lib.ListN.{length, getD}
-use lib.IntN.{ℤ, pos}
+use lib.IntN.{ℤ}
 use lib.Signed.{_≤ℤ_, _<ℤ_}
-use Rattle.arith.specs.declared.Ends.{Ends}
 use Rattle.arith.specs.Fraction.{Fraction, _+ᶠ_, _/ᶠ_, Between}
 use Rattle.reading.specs.Gas.{Gas}
 use Rattle.bag.specs.declared.BagSheet.{BagSheet}

@@ -1,11 +1,11 @@
 -- What is kept of the records from one on, by one record more, how large it is, and the answer that it comes to. Assumes nothing.
-use mathlib.Core.Path.{_≡_, refl, sym, _∙_, subst}
+use mathlib.Core.Path.{_≡_, refl, sym, subst}
 use mathlib.Core.Bool.{Bool, true, false, cond}
 use mathlib.Core.List.{List, [], _∷_}
 use mathlib.Core.Option.{Option, none, some}
 use Prim.Native.Nat.{ℕ, suc, _≤_}
 use lib.ListN.{length}
-use Rattle.reading.specs.Gas.{Gas, HC, CO, NOx, CO2}
+use Rattle.reading.specs.Gas.{HC, CO, NOx, CO2}
 use Rattle.record.specs.declared.Record.{Record}
 use Rattle.tally.specs.Kept.{noTally, addedTo}
 use Rattle.tally.proofs.Counts.{added-one, no-room, added-room, wider-tally, gas-is}

@@ -13,7 +13,6 @@ use Rattle.arith.specs.declared.Ends.{Ends}
 use Rattle.refusal.specs.declared.Refusal.the-variants.{LotSize}
 use Rattle.record.specs.declared.Record.{Record}
 use Rattle.lot.specs.declared.Running.{Running}
-use Rattle.lot.specs.declared.LotAnswer.{LotAnswer}
 use Rattle.lot.specs.declared.LotAnswer.the-variants.{Refused}
 use Rattle.lot.specs.Lot.{sheetOf, firstFault, mostRecords, onFault, lotAnswer}
 use Rattle.lot.specs.Kept.{runningFrom, nothing, joinedTo, recordsRead, answerBy, finishedBy}

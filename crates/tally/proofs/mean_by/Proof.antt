@@ -1,6 +1,5 @@
 -- `tally::mean_by` meets its contract. Assumes nothing.
 use mathlib.Core.Path.{_≡_}
-use borrow.Author.Needs.{needs}
 use borrow.Author.Tests.{eq-eqb, ne-eqb}
 use lib.IntN.{pos}
 use mir.Syntax.{w64}
