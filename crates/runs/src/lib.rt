@@ -67,11 +67,14 @@ fn takes(trace: &[u8], row: &[u8], n: usize, start: usize, end: usize) -> bool
     if n <= end {
         return false;
     }
+    // a long run is not gone through once more
+    if 4 < end - start {
+        return false;
+    }
     let prior = start - 1;
     let barred = has_no_first(trace, start, end);
     !house::stop_at(trace, prior)
         & !house::stop_at(trace, end)
-        & (end - start <= 4)
         & (row[2 * prior] == row[2 * end])
         & !((row[2 * end] == 1) & barred)
 }
