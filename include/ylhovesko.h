@@ -31,7 +31,7 @@ extern "C" {
  *
  *     if (ylhovesko_version() != YLHOVESKO_VERSION) return EXIT_FAILURE;
  */
-#define YLHOVESKO_VERSION 7u
+#define YLHOVESKO_VERSION 8u
 
 /* The version of the archive. */
 uint32_t ylhovesko_version(void);
@@ -127,6 +127,28 @@ typedef struct {
 
 /* Refusals 5 to 7. */
 ylhovesko_speeds ylhovesko_shift_speeds(ylhovesko_vehicle vehicle);
+
+/*
+ * The same shift speeds as gears are chosen by them, in whole tenths of a km/h, the unit of a second's speed. A speed is above the upshift from gear
+ * i + 1 where it is at or above above[i], below it where it is below not_below[i], and else too close to call (refusal 9). At most one tenth is: where
+ * not_below[i] is below above[i], which is not_below[i] + 1 then. From count on both are 65,535, which no speed reaches, so that a speed may always be held
+ * against all seven: outside stop the gear before corrections is
+ *
+ *     in acceleration            1 + the number of the seven that the speed is above
+ *     in cruise, deceleration    1 below to_first, else 2 + the number of the first count - 1 that it is above
+ *
+ * Where outcome is a refusal all the rest is 0.
+ */
+typedef struct {
+    ylhovesko_outcome outcome;
+    uint32_t count;        /* of upshifts: one less than the gears */
+    uint32_t above[7];     /* the least tenth above the shift speed */
+    uint32_t not_below[7]; /* the least tenth that is not below it */
+    uint32_t to_first;     /* the least tenth at or above the downshift from 2 to 1; 0 under rule set 1, which has none */
+} ylhovesko_tenths;
+
+/* Refusals 5 to 7. */
+ylhovesko_tenths ylhovesko_shift_tenths(ylhovesko_vehicle vehicle);
 
 /*
  * The normal and the reduced trace of a cycle, judged as a pair. Refusals 1 to 4 of the normal one, then of the reduced one, then 15.

@@ -14,7 +14,7 @@ import sys
 
 LIBRARY = pathlib.Path(__file__).resolve().parents[1] / "target" / "libylhovesko.so"
 
-VERSION = 7  # of the header after which the types here are written
+VERSION = 8  # of the header after which the types here are written
 
 UNSIGNED = ctypes.c_uint32
 GASES = ["hc", "co", "nox", "co2"]

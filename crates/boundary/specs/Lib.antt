@@ -1,2 +1,1 @@
 pub mod Version
-pub mod Speeds

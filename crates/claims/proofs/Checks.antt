@@ -19,7 +19,7 @@ use Rattle.trace.specs.Judging.{countable, judgeTrace, judgePair}
 use Rattle.house.specs.House.{secondGood}
 use Rattle.vehicle.specs.Sheet.{engineChecks, gearGood, gearRefusal, ruleChecks, mild, judgeVehicle}
 use Rattle.shift.specs.Speeds.{shiftOf}
-use Rattle.gear.specs.Own.{ownAt}
+use Rattle.own.specs.Own.{ownAt}
 use Rattle.gear.specs.Sheet as gears
 use Rattle.gear.specs.Sheet.{gearAnswer}
 use Rattle.bag.specs.declared.BagSheet.{BagSheet}

@@ -9,8 +9,7 @@ use lib.ListN.{length}
 use Rattle.house.specs.House.{flagsAt, speedAt, stop, acceleration}
 use Rattle.vehicle.specs.declared.VehicleSheet.{VehicleSheet}
 use Rattle.shift.specs.declared.Shift.{Shift}
-use Rattle.shift.specs.declared.Own.{Own}
-use Rattle.shift.specs.Speeds.{aboveAt, tallyOf, bySet1, goesFirst, ownGear, shiftOf}
+use Rattle.shift.specs.Speeds.{aboveAt, tallyOf, bySet1, goesFirst, ownGear, shiftOf, Own}
 use Rattle.shift.proofs.Counting.{count-most}
 use Rattle.shift.proofs.Sets.{first, by-sets}
 use Rattle.row.specs.declared.Rule.the-variants.{NoFirst, NoShift, NoDrop, OneStep}
@@ -18,7 +17,7 @@ use Rattle.row.specs.Row.{gearAt}
 use Rattle.row.specs.Corrections.{capRuns, passBy}
 use Rattle.phase.specs.Phase.{firstRow}
 use Rattle.runs.specs.Corrected.{corrected}
-use Rattle.gear.specs.Own.{ownSecond, ownAt}
+use Rattle.own.specs.Own.{ownSecond, ownAt}
 use Rattle.gear.specs.Sheet.{rowOf}
 use Rattle.claims.specs.Rows.{correctedRow}
 use Rattle.claims.proofs.Rows.{row-length, row-gear}

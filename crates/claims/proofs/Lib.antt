@@ -21,3 +21,4 @@ pub mod Finished
 pub mod Gears
 pub mod Widths
 pub mod Before
+pub mod ShiftTenths

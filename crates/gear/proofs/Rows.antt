@@ -10,7 +10,7 @@ use Rattle.house.specs.House.{flagsAt}
 use Rattle.vehicle.specs.declared.VehicleSheet.{VehicleSheet}
 use Rattle.shift.specs.Speeds.{shiftOf}
 use Rattle.phase.specs.Phase.{stopEnd, gearBy, firstGear, firstRow}
-use Rattle.gear.specs.Own.{putOwn}
+use Rattle.own.specs.Own.{putOwn}
 use Rattle.gear.specs.Sheet.{finished, rowFrom, ownOf, rowOf}
 
 first-same : (f g : ℕ → ℕ) (trace : List ℕ) (n : ℕ) → ((k : ℕ) → k < n → f k ≡ g k) → firstRow f trace n ≡ firstRow g trace n

@@ -21,8 +21,8 @@ use Rattle.vehicle.specs.Sheet.{judgeVehicle, Sound as SoundVehicle}
 use Rattle.vehicle.proofs.Sound.{accepted-sound as vehicle-sound}
 use Rattle.shift.specs.Speeds.{shiftOf}
 use Rattle.shift.proofs.Sides.{shift-ranges}
-use Rattle.gear.specs.Own.{judgeClose, Ready}
-use Rattle.gear.specs.Sheet.{judgeRoom, judgeSheet, gearAnswer, ifAccepted, withRow, gearBuffer}
+use Rattle.own.specs.Own.{judgeClose, ifAccepted, Ready}
+use Rattle.gear.specs.Sheet.{judgeRoom, judgeSheet, gearAnswer, withRow, gearBuffer}
 
 pub record Sound (trace : List ℕ) (v : VehicleSheet) (room start : ℕ) : Type 0 where
   pub of-trace : SoundTrace trace

@@ -5,7 +5,7 @@ use Prim.Native.Nat.{ℕ, _-_, _*_}
 use lib.ListN.{length, take, drop}
 use lib.Dec.{leb}
 use Rattle.refusal.specs.declared.Judged.{Judged}
-use Rattle.refusal.specs.declared.Judged.the-variants.{Accepted, Refused}
+use Rattle.refusal.specs.declared.Judged.the-variants.{Accepted}
 use Rattle.refusal.specs.declared.Refusal.the-variants.{Room}
 use Rattle.refusal.specs.Judging.{checked, andThen}
 use Rattle.house.specs.House.{countOf}
@@ -16,7 +16,7 @@ use Rattle.shift.specs.Speeds.{shiftOf}
 use Rattle.phase.specs.Phase.{firstRow}
 use Rattle.runs.specs.Corrected.{corrected}
 use Rattle.clutch.specs.Clutch.{clutchBy, withClutch}
-use Rattle.gear.specs.Own.{ownAt, judgeClose}
+use Rattle.own.specs.Own.{ownAt, judgeClose, ifAccepted}
 
 -- what becomes of a row before corrections: corrected, and then with its clutch
 abbrev pub finished : VehicleSheet → List ℕ → List ℕ → ℕ → List ℕ
@@ -46,11 +46,6 @@ judgeSheet trace v room start =
 unfoldable pub gearAnswer : List ℕ → VehicleSheet → ℕ → ℕ → Judged
 gearAnswer trace v room start =
     andThen (judgeSheet trace v room start) (judgeClose (shiftOf v) trace 0 (countOf trace))
-
--- what is new where a stage accepted; a refusal leaves the old
-abbrev pub ifAccepted : Judged → List ℕ → List ℕ → List ℕ
-ifAccepted Accepted new old = new
-ifAccepted (Refused refusal) new old = old
 
 -- a part with the row at its front; "bytes .. after the last second written stay"
 abbrev pub withRow : VehicleSheet → List ℕ → ℕ → List ℕ → List ℕ

@@ -1,52 +1,16 @@
 // The gear sheet (01, Trace to Corrections): the gear and clutch of every second of a trace, for a vehicle, into a lent buffer.
 use refusal::Judged;
 use refusal::Refusal;
-use shift::Own;
-use shift::Shift;
 use vehicle::VehicleSheet;
 ghost use mathlib.Core.Path.{_≡_};
 ghost use mathlib.Core.List.{_++_};
 ghost use Prim.Native.Nat.{_*_, _≤_};
 ghost use lib.ListN.{length, getD, drop};
-ghost use Rattle.refusal.specs.declared.Judged.the-variants.{Accepted};
 ghost use Rattle.row.specs.Row.{HaveSeconds};
 ghost use Rattle.vehicle.specs.Sheet.{Sound};
-ghost use Rattle.shift.specs.Speeds.{shiftOf, ShiftRanges};
-ghost use Rattle.gear.specs.Own.{ownSecond, judgeClose, putOwn, Ready};
-ghost use Rattle.gear.specs.Sheet.{rowFrom, judgeSheet, gearAnswer, ifAccepted, withRow, gearBuffer};
-
-// The gear that a second's speed gives; a stop second is compared with nothing.
-pub fn own_second(s: Shift, flags: u8, speed: u32) -> Own
-    requires { ⌜ (ShiftRanges s) × (speed ≤ 2000) ⌝ }
-    ensures { λ r. ⌜ r ≡ ownSecond s flags speed ⌝ }
-{
-    if house::is_stop(flags) {
-        return Own {
-            gear: 0,
-            close: false,
-        };
-    }
-    shift::own_gear(s, house::is_acceleration(flags), speed)
-}
-
-// Refusal 9, and the gears by the way, so that no comparison is made twice.
-fn own_gears(s: Shift, trace: &[u8], own: &mut [u8], n: usize) -> Judged
-    requires { ⌜ (Ready s (now trace) n) × (n ≤ length (now own)) ⌝ }
-    ensures { λ r. ⌜ (r ≡ judgeClose s (now (trace .entry)) 0 n) × (r ≡ Accepted → now (own .exit) ≡ putOwn s (now (trace .entry)) (now (own .entry)) n) ⌝ }
-{
-    let mut k = 0;
-    while k < n {
-        let speed = house::speed_at(trace, k) as u32;
-        let second = own_second(s, house::flags_at(trace, k), speed);
-        if second.close {
-            let place = (k + 1) as u32;
-            return Judged::Refused(Refusal::TooClose { second: place });
-        }
-        own[k] = second.gear;
-        k += 1;
-    }
-    Judged::Accepted
-}
+ghost use Rattle.shift.specs.Speeds.{shiftOf};
+ghost use Rattle.own.specs.Own.{judgeClose, ifAccepted, Ready};
+ghost use Rattle.gear.specs.Sheet.{rowFrom, judgeSheet, gearAnswer, withRow, gearBuffer};
 
 // The finished row, over all of a slice.
 fn finish(v: VehicleSheet, trace: &[u8], own: &[u8], row: &mut [u8], n: usize)
@@ -74,7 +38,7 @@ fn fill(v: VehicleSheet, trace: &[u8], part: &mut [u8], n: usize) -> Judged
         × (now (part .exit) ≡ ifAccepted r (withRow v (now (trace .entry)) n (now (part .entry))) (now (part .entry))) ⌝ }
 {
     let mut own = [0u8; 2000];
-    let close = own_gears(shift::shift_of(v), trace, &mut own, n);
+    let close = own::own_gears(v, trace, &mut own, n);
     let Judged::Accepted = close else {
         return close;
     };

@@ -9,8 +9,7 @@ use Rattle.refusal.specs.declared.Refusal.the-variants.{TooClose}
 use Rattle.walk.specs.Walk.{inTurn, scan}
 use Rattle.house.specs.House.{Lasts, speedAt, flagsAt, stop, acceleration}
 use Rattle.shift.specs.declared.Shift.{Shift}
-use Rattle.shift.specs.declared.Own.{Own}
-use Rattle.shift.specs.Speeds.{ownGear, ShiftRanges}
+use Rattle.shift.specs.Speeds.{ownGear, ShiftRanges, Own}
 
 -- a second by its phase and its speed; a stop second is compared with nothing
 unfoldable pub ownSecond : Shift → ℕ → ℕ → Own
@@ -20,12 +19,27 @@ abbrev pub ownAt : Shift → List ℕ → ℕ → Own
 ownAt s trace k = ownSecond s (flagsAt trace k) (speedAt trace k)
 
 -- 9: "Too close in any comparison .. refuses the trace", the first such of the n seconds from k on
+abbrev pub judgeOwn : (ℕ → Own) → ℕ → ℕ → Judged
+judgeOwn own = scan (λ k. not (own k .close)) (λ k. Refused (TooClose (k + 1))) (λ k. Accepted)
+
 abbrev pub judgeClose : Shift → List ℕ → ℕ → ℕ → Judged
-judgeClose s trace = scan (λ k. not (ownAt s trace k .close)) (λ k. Refused (TooClose (k + 1))) (λ k. Accepted)
+judgeClose s trace = judgeOwn (ownAt s trace)
 
 -- the own gears of n seconds, put into a list
+abbrev pub putGears : (ℕ → Own) → List ℕ → ℕ → List ℕ
+putGears own = inTurn (λ gears k. set gears k (own k .gear))
+
 abbrev pub putOwn : Shift → List ℕ → List ℕ → ℕ → List ℕ
-putOwn s trace = inTurn (λ own k. set own k (ownAt s trace k .gear))
+putOwn s trace = putGears (ownAt s trace)
+
+-- what is new where a stage accepted; a refusal leaves the old
+abbrev pub ifAccepted : Judged → List ℕ → List ℕ → List ℕ
+ifAccepted Accepted new old = new
+ifAccepted (Refused refusal) new old = old
+
+-- the list after the comparisons: the own gears at its front, or as it was
+unfoldable pub gearsAfter : Shift → List ℕ → List ℕ → ℕ → List ℕ
+gearsAfter s trace own n = ifAccepted (judgeClose s trace 0 n) (putOwn s trace own n) own
 
 -- what an accepted trace and sheet give
 pub record Ready (s : Shift) (trace : List ℕ) (n : ℕ) : Type 0 where

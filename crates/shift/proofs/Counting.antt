@@ -4,15 +4,11 @@ use mathlib.Core.Bool.{Bool, true, false, cond}
 use Prim.Native.Nat.{ℕ, zero, suc, _+_, _≤_, _<_}
 use native.Mathlib.Numerals.{add-one}
 use native.Mathlib.Omega.{arith}
-use Rattle.arith.specs.declared.Ends.{Ends}
-use Rattle.shift.specs.Speeds.{count, above, tooClose, oneOf}
+use Rattle.shift.specs.Speeds.{count}
 
-one-most : (holds : Bool) → cond holds 1 0 ≤ 1
+pub one-most : (holds : Bool) → cond holds 1 0 ≤ 1
 one-most true = omega arith
 one-most false = omega arith
-
-pub one-of-most : (speed ndv : ℕ) (side : Ends) → (oneOf speed ndv side .above ≤ 1) × (oneOf speed ndv side .close ≤ 1)
-one-of-most speed ndv side = (one-most (above speed ndv side), one-most (tooClose speed ndv side))
 
 module _ (holds : ℕ → Bool) where
   pub count-more : (n : ℕ) → count holds (n + 1) ≡ count holds n + cond (holds n) 1 0

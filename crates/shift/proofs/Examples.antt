@@ -11,11 +11,10 @@ use Rattle.arith.specs.Stages.{exactly, sumOf, differenceOf, scaledBy, dividedB
 use Rattle.vehicle.specs.declared.VehicleSheet.{VehicleSheet}
 use Rattle.vehicle.proofs.Examples.{annex}
 use Rattle.shift.specs.declared.Shift.{Shift}
-use Rattle.shift.specs.declared.Own.{Own}
 use Rattle.shift.specs.Exact.{exactFirst, exactHigher}
 use Rattle.shift.specs.Cruise.{cruiseUpshift}
 use Rattle.shift.specs.Exponential.{nextTerm, termOf, withTerm, sumTo, exponentialOf}
-use Rattle.shift.specs.Speeds.{sideOf, higherSide, leftOf, below, above, tooClose, tallyOf, bySet1, belowSecond, bySet2, ownGear}
+use Rattle.shift.specs.Speeds.{sideOf, higherSide, leftOf, below, above, tooClose, tallyOf, bySet1, belowSecond, bySet2, ownGear, Own}
 
 -- the ends of e for the machine with 72.0 kW and 199 kg: x is 13,680 / 27,400
 ends : exponentialOf 13680 27400 ≡ record { lower = pos 2606931512; upper = pos 2606931537 }

@@ -6,3 +6,4 @@ pub mod ExactSpeeds
 pub mod Examples
 pub mod Sets
 pub mod Cruise
+pub mod Narrow

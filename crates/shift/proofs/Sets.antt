@@ -1,14 +1,13 @@
 -- The gear by the sheet's rule set, by cases: under set 2 a cruise or deceleration second below the downshift 2 to 1 is in gear 1, and every other second has
 -- the gear of set 1. Assumes nothing.
-use mathlib.Core.Path.{_≡_, refl, ap, _∙_}
+use mathlib.Core.Path.{_≡_, refl}
 use mathlib.Core.Bool.{Bool, true, false, not, cond, _&&_}
 use Prim.Native.Nat.{ℕ}
 use lib.Dec.{eqb}
 use Rattle.vehicle.specs.declared.VehicleSheet.{VehicleSheet}
 use Rattle.vehicle.specs.Engine.{belowLowest}
 use Rattle.shift.specs.declared.Shift.{Shift}
-use Rattle.shift.specs.declared.Own.{Own}
-use Rattle.shift.specs.Speeds.{shiftOf, bySet1, belowSecond, bySet2, goesFirst, ownGear}
+use Rattle.shift.specs.Speeds.{shiftOf, bySet1, belowSecond, bySet2, goesFirst, ownGear, Own}
 
 -- a gear 1 that is as close as the gear it stands for
 abbrev pub first : Own → Own
@@ -32,13 +31,6 @@ module _ (s : Shift) (speed : ℕ) where
       go true false = refl
       go false true = refl
       go false false = refl
-
-  -- as a test found it
-  pub as-tested : (accelerates : Bool) {goes : Bool} → goesFirst s accelerates speed ≡ goes
-      → ownGear s accelerates speed ≡ cond goes (first (bySet1 s accelerates speed)) (bySet1 s accelerates speed)
-  as-tested accelerates e =
-      let own = bySet1 s accelerates speed in
-      by-sets accelerates ∙ ap (λ (goes : Bool). cond goes (first own) own) e
 
 -- a sheet that names set 1 has its gears
 pub stays : (s : Shift) → s .rules ≡ 1 → (accelerates : Bool) (speed : ℕ) → ownGear s accelerates speed ≡ bySet1 s accelerates speed

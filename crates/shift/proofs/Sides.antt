@@ -2,7 +2,6 @@
 use Prim.Native.Nat.{ℕ, _+_, _-_, _*_, _≤_}
 use native.Mathlib.Nat.{le-refl}
 use native.Mathlib.Omega.{arith}
-use mathlib.Core.List.{List}
 use lib.Dec.{lit<, lit≤}
 use lib.IntN.{pos, natAbs, _*ℤ_}
 use mir.Syntax.{w64}
@@ -14,7 +13,7 @@ use Rattle.arith.proofs.Size.{exactly-size, scaled-size, difference-size, wider
 use Rattle.vehicle.specs.declared.VehicleSheet.{VehicleSheet}
 use Rattle.vehicle.specs.Sheet.{Sound}
 use Rattle.shift.specs.Exponential.{Exponent}
-use Rattle.shift.specs.Speeds.{powerOf, sideUnit, share, higherPart, tenth, firstPart, shiftOf, InRange, ShiftRanges}
+use Rattle.shift.specs.Speeds.{powerOf, sideUnit, share, higherPart, tenth, firstPart, shiftOf, ShiftRanges}
 use Rattle.shift.specs.Fitting.{SideFits}
 use Rattle.shift.proofs.Terms.{exponential-size}
 
@@ -69,7 +68,3 @@ module _ {v : VehicleSheet} (s : Sound v) where
   shift-ranges =
       let g = s .ranged .gears in
       record { some = g .0; range = record { few = g .1; ndvs = λ i l. s .ndv i l .1 } }
-
--- fewer gears are in range too
-pub fewer : {ndv : List ℕ} {n : ℕ} (m : ℕ) → m ≤ n → InRange ndv n → InRange ndv m
-fewer m h r = record { few = omega (arith, r .few); ndvs = λ i l. r .ndvs i (omega arith) }

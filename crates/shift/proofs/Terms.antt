@@ -101,6 +101,11 @@ module _ {over under : ℕ} (x : Exponent over under) (k : ℕ) (few : k < 24) w
       let room : total k + bound (k + 1) < 2 ^ 63 = omega (arith, total-most k, bound-most (k + 1)) in
       (sum-fits room sum t, difference-fits room sum t)
 
+-- the last term is a unit at most
+pub last-size : {over under : ℕ} → Exponent over under → Sized 1 (termOf over under 24)
+unfolding bound
+last-size x = wider-size (lit≤ {m = bound 24} tt) (term-size x 24)
+
 -- the ends of the whole are within 2 · 10¹⁰ of zero
 pub exponential-size : {over under : ℕ} → Exponent over under → Sized 20000000000 (exponentialOf over under)
 unfolding exponentialOf total bound

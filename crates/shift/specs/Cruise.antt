@@ -7,8 +7,7 @@ use lib.IntN.{pos}
 use Rattle.arith.specs.Fraction.{Fraction, decimal, _/ᶠ_}
 use Rattle.vehicle.specs.declared.VehicleSheet.{VehicleSheet}
 use Rattle.vehicle.specs.Sheet.{ndvAt}
-use Rattle.shift.specs.declared.Own.{Own}
-use Rattle.shift.specs.Speeds.{powerOf, count}
+use Rattle.shift.specs.Speeds.{powerOf, count, Own}
 use Rattle.shift.specs.Exact.{exactFirst, exactHigher, exactLowest, exactSpeed, fromUnits, less}
 
 -- "ndv(i)", per minute per km/h

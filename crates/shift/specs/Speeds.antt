@@ -11,8 +11,6 @@ use Rattle.arith.specs.Stages.{exactly, sumOf, differenceOf, scaledBy}
 use Rattle.vehicle.specs.declared.VehicleSheet.{VehicleSheet}
 use Rattle.vehicle.specs.Engine.{lowestEngineSpeed}
 use Rattle.shift.specs.declared.Shift.{Shift}
-use Rattle.shift.specs.declared.Own.{Own}
-use Rattle.shift.specs.declared.Tally.{Tally}
 use Rattle.shift.specs.Exponential.{exponentialOf}
 
 -- "x = 19 P / (100 (m + 75))"
@@ -84,13 +82,19 @@ abbrev pub count : (ℕ → Bool) → ℕ → ℕ
 count holds zero = 0
 count holds (suc n) = count holds n + cond (holds n) 1 0
 
--- one comparison as two counts, and n of them
-abbrev pub oneOf : ℕ → ℕ → Ends → Tally
-oneOf speed ndv side = record { above = cond (above speed ndv side) 1 0; close = cond (tooClose speed ndv side) 1 0 }
+-- how many of n shift speeds a speed is above, and to how many it is too close
+pub record Tally : Type 0 where
+  pub above : ℕ
+  pub close : ℕ
 
 unfoldable pub tallyOf : Ends → Ends → List ℕ → ℕ → ℕ → Tally
 tallyOf first higher ndv speed n =
     record { above = count (aboveAt first higher ndv speed) n; close = count (closeAt first higher ndv speed) n }
+
+-- a gear by the speed alone, and whether any comparison is too close to call
+pub record Own : Type 0 where
+  pub gear : ℕ
+  pub close : Bool
 
 -- so many more than the speeds it is above, and whether any of these comparisons is too close
 abbrev pub ownBy : Tally → ℕ → Own

@@ -1,15 +1,11 @@
-// The shift speeds of a vehicle (01, Shift speeds): the ends of e to the power -x, the two sides that a speed is held against, and the gear of a
-// speed by itself.
+// The shift speeds of a vehicle (01, Shift speeds): the ends of e to the power -x, and the two sides that a speed is held against.
 use arith::Ends;
 use vehicle::VehicleSheet;
 ghost use mathlib.Core.Path.{_≡_};
 ghost use Rattle.shift.specs.Exponential.{nextTerm, withTerm, exponentialOf, Exponent};
 ghost use Rattle.shift.specs.Fitting.{TermFits, SideFits};
-ghost use Rattle.shift.specs.Speeds.{sideOf, shiftOf, leftOf, sideAt, oneOf, tallyOf, bySet1, belowSecond, goesFirst, ownGear, InRange, ShiftRanges};
+ghost use Rattle.shift.specs.Speeds.{sideOf, shiftOf, sideAt};
 ghost use Rattle.vehicle.specs.Sheet.{Sound};
-ghost use mathlib.Core.Bool.{cond};
-ghost use Prim.Native.Nat.{_≤_, _<_};
-ghost use lib.Signed.{ltZ};
 ghost use Rattle.arith.specs.Fitting.{SumFits, DifferenceFits};
 
 // The k-th term from the one before it.
@@ -93,131 +89,8 @@ pub fn shift_of(v: VehicleSheet) -> Shift
     }
 }
 
-// The left side of the comparison.
-fn left(speed: u32, ndv: u32) -> i64
-    requires { ⌜ (speed ≤ 2000) × (ndv ≤ 100000) ⌝ }
-    ensures { λ r. ⌜ r ≡ leftOf speed ndv ⌝ }
-{
-    42949672960 * (arith::whole(speed) * arith::whole(ndv))
-}
-
-fn is_above(left: i64, side: Ends) -> bool
-    ensures { λ r. ⌜ r ≡ ltZ (side .upper) left ⌝ }
-{
-    side.upper < left
-}
-
-fn is_below(left: i64, side: Ends) -> bool
-    ensures { λ r. ⌜ r ≡ ltZ left (side .lower) ⌝ }
-{
-    left < side.lower
-}
-
-fn one_if(holds: bool) -> u8
-    ensures { λ r. ⌜ r ≡ cond holds 1 0 ⌝ }
-{
-    if holds { 1 } else { 0 }
-}
-
-// How many shift speeds a speed is above, and to how many it is too close.
-struct Tally {
-    above: u8,
-    close: u8,
-}
-
-// One comparison.
-fn compared(speed: u32, ndv: u32, side: Ends) -> Tally
-    requires { ⌜ (speed ≤ 2000) × (ndv ≤ 100000) ⌝ }
-    ensures { λ r. ⌜ r ≡ oneOf speed ndv side ⌝ }
-{
-    let n = left(speed, ndv);
-    let over = is_above(n, side);
-    let under = is_below(n, side);
-    Tally {
-        above: one_if(over),
-        close: one_if(!under & !over),
-    }
-}
-
 pub fn side_at(first: Ends, higher: Ends, i: usize) -> Ends
     ensures { λ r. ⌜ r ≡ sideAt first higher i ⌝ }
 {
     if i == 0 { first } else { higher }
-}
-
-// The first n shift speeds.
-fn compared_all(first: Ends, higher: Ends, ndv: [u32; 8], speed: u32, n: usize) -> Tally
-    requires { ⌜ (InRange ndv n) × (speed ≤ 2000) ⌝ }
-    ensures { λ r. ⌜ (r ≡ tallyOf first higher ndv speed n) × (r .above ≤ n) ⌝ }
-{
-    let mut above = 0;
-    let mut close = 0;
-    let mut i = 0;
-    while i < n {
-        let one = compared(speed, ndv[i], side_at(first, higher, i));
-        above += one.above;
-        close += one.close;
-        i += 1;
-    }
-    Tally { above, close }
-}
-
-// A gear by the speed alone, and whether any comparison was too close to call.
-pub struct Own {
-    pub gear: u8,
-    pub close: bool,
-}
-
-// The gear of a second outside stop by rule set 1, before corrections.
-fn by_set_1(s: Shift, accelerating: bool, speed: u32) -> Own
-    requires { ⌜ (ShiftRanges s) × (speed ≤ 2000) ⌝ }
-    ensures { λ r. ⌜ r ≡ bySet1 s accelerating speed ⌝ }
-{
-    let ndv = s.ndv;
-    let gears = s.gears as usize;
-    if accelerating {
-        let up = compared_all(s.first, s.higher, ndv, speed, gears - 1);
-        return Own {
-            gear: up.above + 1,
-            close: 0 < up.close,
-        };
-    }
-    let down = compared_all(s.first, s.higher, ndv, speed, gears - 2);
-    Own {
-        gear: down.above + 2,
-        close: 0 < down.close,
-    }
-}
-
-// Below the downshift 2 to 1 of rule set 2, which has no exponential in it.
-fn below_second(s: Shift, speed: u32) -> bool
-    requires { ⌜ (ShiftRanges s) × (speed ≤ 2000) ⌝ }
-    ensures { λ r. ⌜ r ≡ belowSecond s speed ⌝ }
-{
-    let ndv = s.ndv;
-    (speed as u64) * (ndv[1] as u64) < s.lowest
-}
-
-// Gear 1 by rule set 2.
-fn goes_first(s: Shift, accelerating: bool, speed: u32) -> bool
-    requires { ⌜ (ShiftRanges s) × (speed ≤ 2000) ⌝ }
-    ensures { λ r. ⌜ r ≡ goesFirst s accelerating speed ⌝ }
-{
-    let below = below_second(s, speed);
-    (s.rules == 2) & !accelerating & below
-}
-
-// The gear of a second outside stop by the sheet's rule set, before corrections.
-pub fn own_gear(s: Shift, accelerating: bool, speed: u32) -> Own
-    requires { ⌜ (ShiftRanges s) × (speed ≤ 2000) ⌝ }
-    ensures { λ r. ⌜ r ≡ ownGear s accelerating speed ⌝ }
-{
-    let own = by_set_1(s, accelerating, speed);
-    if goes_first(s, accelerating, speed) {
-        return Own {
-            gear: 1,
-            close: own.close,
-        };
-    }
-    own
 }

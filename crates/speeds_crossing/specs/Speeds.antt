@@ -11,7 +11,7 @@ use Rattle.shift.specs.Speeds.{shiftOf}
 use Rattle.speeds.specs.Upshifts.{shiftSpeedsOf}
 use Rattle.outcome.specs.declared.Outcome.{Outcome}
 use Rattle.outcome.specs.Outcome.{outcomeOf}
-use Rattle.boundary.specs.declared.SpeedsOutcome.{SpeedsOutcome}
+use Rattle.speeds_crossing.specs.declared.SpeedsOutcome.{SpeedsOutcome}
 
 abbrev none : Ends
 none = exactly (pos 0)

@@ -3,3 +3,4 @@ pub mod Stores
 pub mod Pairs
 pub mod Ends
 pub mod Listed
+pub mod Same

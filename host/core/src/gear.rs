@@ -90,6 +90,83 @@ pub fn shift_speeds(vehicle: Vehicle) -> Result<ShiftSpeeds, Refusal> {
     told.map(|()| ShiftSpeeds { upshifts: given.to_vec(), to_first })
 }
 
+/// What crosses the boundary in place of a `Result`; `ylhovesko_tenths` of include/ylhovesko.h.
+#[repr(C)]
+pub(crate) struct TenthsOutcome {
+    pub outcome: Outcome,
+    pub count: u32,
+    pub above: [u32; 7],
+    pub not_below: [u32; 7],
+    pub to_first: u32,
+}
+
+/// A shift speed in whole tenths of a km/h: a speed is above it from `above` on, below it under `not_below`, and else too close to call.
+#[derive(Clone, Copy, Debug, PartialEq, Eq)]
+pub struct Tenths {
+    pub above: u32,
+    pub not_below: u32,
+}
+
+impl Tenths {
+    /// The tenth that is too close to call, if there is one.
+    pub fn too_close(self) -> Option<u32> {
+        (self.not_below < self.above).then_some(self.not_below)
+    }
+}
+
+/// The shift speeds of a vehicle as gears are chosen by them, in whole tenths of a km/h.
+#[derive(Clone, Debug, PartialEq, Eq)]
+pub struct ShiftTenths {
+    upshifts: Vec<Tenths>,
+    to_first: Option<u32>,
+}
+
+impl ShiftTenths {
+    /// From each gear but the last to the next, beginning with gear 1.
+    pub fn upshifts(&self) -> &[Tenths] {
+        &self.upshifts
+    }
+
+    /// From each gear to the one before, beginning with gear 3: the upshift of two gears below.
+    pub fn downshifts(&self) -> &[Tenths] {
+        &self.upshifts[..self.upshifts.len() - 1]
+    }
+
+    /// The least tenth at or above the downshift from gear 2 to gear 1, which rule set 2 alone has.
+    pub fn to_first(&self) -> Option<u32> {
+        self.to_first
+    }
+}
+
+/// What stands in the places past the last shift speed: no speed reaches it.
+const OUT_OF_REACH: u32 = 65_535;
+
+/// The shift speeds of a vehicle in whole tenths; or the first of the refusals 5 to 7.
+///
+/// ```
+/// use ylhovesko::gear::{shift_tenths, Tenths, Vehicle};
+/// let vehicle = Vehicle { power: 300, mass: 200, rated: 8000, idle: 1200, gears: 3, ndv: [20_000, 12_000, 9_000, 0, 0, 0, 0, 0], rule_set: 1 };
+/// let tenths = shift_tenths(vehicle).unwrap();
+/// // 18.498 and 36.497 km/h
+/// assert_eq!(tenths.upshifts(), [Tenths { above: 185, not_below: 185 }, Tenths { above: 365, not_below: 365 }]);
+/// assert_eq!(tenths.downshifts(), &tenths.upshifts()[..1]);
+/// assert_eq!((tenths.upshifts()[0].too_close(), tenths.to_first()), (None, None));
+/// // 11.7 km/h exactly
+/// assert_eq!(shift_tenths(Vehicle { rule_set: 2, ..vehicle }).unwrap().to_first(), Some(117));
+/// assert_eq!(shift_tenths(Vehicle { gears: 9, ..vehicle }).unwrap_err().number, 5);
+/// ```
+pub fn shift_tenths(vehicle: Vehicle) -> Result<ShiftTenths, Refusal> {
+    agreed();
+    let TenthsOutcome { outcome, count, above, not_below, to_first } = calls::shift_tenths(vehicle);
+    let told = outcome.told();
+    let mut upshifts: Vec<_> = above.into_iter().zip(not_below).map(|(above, not_below)| Tenths { above, not_below }).collect();
+    let unused = if told.is_ok() { OUT_OF_REACH } else { 0 };
+    let rest = upshifts.split_off(count as usize);
+    assert!(rest.iter().all(|tenths| [tenths.above, tenths.not_below] == [unused; 2]), "what is past the last is out of reach");
+    assert!((count == 0) == told.is_err() && (to_first != 0) == (told.is_ok() && vehicle.rule_set == 2), "what is not given is 0");
+    told.map(|()| ShiftTenths { upshifts, to_first: Some(to_first).filter(|tenth| *tenth != 0) })
+}
+
 /// Judges the two traces of a cycle: refusals 1 to 4 of the normal one, then of the reduced one, then 15.
 pub fn judge_pair(normal: &[u8], reduced: &[u8]) -> Result<(), Refusal> {
     agreed();

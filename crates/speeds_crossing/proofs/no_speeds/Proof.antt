@@ -1,7 +1,7 @@
--- `boundary::no_speeds` meets its contract. Assumes nothing.
-use Rattle.boundary.specs.Speeds.{noSpeeds}
-use Rattle.boundary.proofs.no_speeds.Statement.{statement}
-use Rattle.boundary.proofs.no_speeds.Tie as tie
+-- `speeds_crossing::no_speeds` meets its contract. Assumes nothing.
+use Rattle.speeds_crossing.specs.Speeds.{noSpeeds}
+use Rattle.speeds_crossing.proofs.no_speeds.Statement.{statement}
+use Rattle.speeds_crossing.proofs.no_speeds.Tie as tie
 
 returns : tie.Need-returns
 unfolding noSpeeds

@@ -1,12 +1,12 @@
--- `boundary::ylhovesko_shift_speeds` meets its contract: a refused sheet gives its refusal and zeros, an accepted one its speeds. Assumes nothing.
+-- `speeds_crossing::speeds_out` meets its contract: a refused sheet gives its refusal and zeros, an accepted one its speeds. Assumes nothing.
 use mathlib.Core.Path.{_≡_, sym, _∙_}
 use borrow.Author.Needs.{needs}
 use Rattle.refusal.specs.declared.Judged.the-variants.{Accepted}
 use Rattle.vehicle.specs.Sheet.{judgeVehicle}
 use Rattle.vehicle.proofs.Sound.{accepted-sound}
-use Rattle.boundary.specs.Speeds.{speedsOut}
-use Rattle.boundary.proofs.ylhovesko_shift_speeds.Statement.{statement}
-use Rattle.boundary.proofs.ylhovesko_shift_speeds.Tie as tie
+use Rattle.speeds_crossing.specs.Speeds.{speedsOut}
+use Rattle.speeds_crossing.proofs.speeds_out.Statement.{statement}
+use Rattle.speeds_crossing.proofs.speeds_out.Tie as tie
 
 -- past the `let .. else` the sheet is accepted
 accepted : (c : tie.After-enum-told) → judgeVehicle (c .before .before .before .args .vehicle) ≡ Accepted
@@ -28,8 +28,8 @@ returns-2 c =
     let told = made .before in
     simp (accepted told, made .of-vehicle .ensures, c .outcome-of2 .ensures, told .enum-told .given .1)
 
-pub ylhovesko-shift-speeds-spec : {M : Type 1} → statement M
-ylhovesko-shift-speeds-spec =
+pub speeds-out-spec : {M : Type 1} → statement M
+speeds-out-spec =
     tie.close
     (tie.spec
     (λ c κs. tt)

@@ -1,0 +1,2 @@
+pub mod Speeds
+pub mod ShiftTenths
