@@ -46,6 +46,118 @@ static void shift_speeds(ylhovesko_vehicle vehicle)
            speeds.count == 0 && memcmp(speeds.upshift, none, sizeof none) == 0 && ends(speeds.to_first, 0, 0));
 }
 
+/* whether the tenths have this outcome and nothing beside it */
+static int no_tenths(ylhovesko_tenths told, uint32_t number, uint32_t at)
+{
+    const ylhovesko_tenths expected = {.outcome = {number, at, 0, 0}};
+
+    return memcmp(&told, &expected, sizeof told) == 0;
+}
+
+/* whether each upshift has this least tenth, and none a tenth that is too close to it */
+static int unmarked(ylhovesko_tenths told, uint32_t count, const uint32_t least[7])
+{
+    const size_t seven = 7 * sizeof least[0];
+
+    return is(told.outcome, 0, 0) && told.count == count && memcmp(told.above, least, seven) == 0 && memcmp(told.not_below, least, seven) == 0;
+}
+
+static void shift_tenths(ylhovesko_vehicle vehicle)
+{
+    /* 18.498.., 36.497.. and 48.663.. km/h; then 62.567.., 72.994.., 79.630.. and 437.532.. */
+    const uint32_t of_four[7] = {185, 365, 487, 65535, 65535, 65535, 65535}, of_eight[7] = {185, 365, 487, 626, 730, 797, 4376};
+    const uint32_t ratios[8] = {20000, 12000, 9000, 7000, 6000, 5500, 1001, 1000};
+    ylhovesko_vehicle eight = vehicle;
+    ylhovesko_tenths tenths = ylhovesko_shift_tenths(vehicle);
+
+    expect("the tenths", unmarked(tenths, 3, of_four));
+    expect("no tenth of 2 to 1 under rule set 1", tenths.to_first == 0);
+    vehicle.rule_set = 2;
+    tenths = ylhovesko_shift_tenths(vehicle);
+    expect("the same tenths under rule set 2", unmarked(tenths, 3, of_four));
+    expect("the tenth at downshift 2 to 1", tenths.to_first == 117);
+    eight.gears = 8;
+    memcpy(eight.ndv, ratios, sizeof ratios);
+    expect("the tenths of eight gears, the last above every speed of a trace", unmarked(ylhovesko_shift_tenths(eight), 7, of_eight));
+    vehicle.ndv[1] = 11999;
+    expect("the tenth above downshift 2 to 1", ylhovesko_shift_tenths(vehicle).to_first == 118);
+    vehicle.rule_set = 3;
+    expect("no third rule set for tenths", no_tenths(ylhovesko_shift_tenths(vehicle), 5, 14));
+    vehicle.gears = 9;
+    expect("gears for tenths", no_tenths(ylhovesko_shift_tenths(vehicle), 5, 5));
+}
+
+/* the gear before corrections as the header has it from the tenths; 0 where the speed is too close to call */
+static uint8_t gear_by_tenths(const ylhovesko_tenths *tenths, uint8_t phase, uint32_t speed)
+{
+    const uint32_t held = phase == 1 ? tenths->count : tenths->count - 1;
+    uint32_t i;
+    uint8_t above = 0;
+
+    for (i = 0; i < held; i++) {
+        if (tenths->not_below[i] <= speed && speed < tenths->above[i])
+            return 0;
+        above += speed >= tenths->above[i];
+    }
+    if (phase == 1)
+        return 1 + above;
+    return speed < tenths->to_first ? 1 : 2 + above;
+}
+
+/* every speed in acceleration, cruise and deceleration, as a trace of one second, which no correction changes */
+static void every_speed(ylhovesko_vehicle vehicle)
+{
+    const ylhovesko_tenths tenths = ylhovesko_shift_tenths(vehicle);
+    uint8_t phase, row[2], trace[] = {'W', 'T', 'R', 0, 1, 0, 1, 0, 0, 0, 0, 0};
+    uint32_t speed;
+
+    for (phase = 1; phase <= 3; phase++) {
+        for (speed = 0; speed <= 2000; speed++) {
+            const uint8_t gear = gear_by_tenths(&tenths, phase, speed);
+            ylhovesko_outcome o;
+
+            trace[8] = (uint8_t)speed;
+            trace[9] = (uint8_t)(speed >> 8);
+            trace[10] = phase;
+            o = ylhovesko_gears(trace, sizeof trace, vehicle, row, sizeof row, 0);
+            expect("a gear by the tenths", gear == 0 ? is(o, 9, 1) : is(o, 0, 0) && row[0] == gear);
+        }
+    }
+}
+
+/* 123.7 km/h in acceleration on a vehicle for which it is too close to the upshift 2 to 3, then 123.6 and 123.8 */
+static void too_close(ylhovesko_vehicle vehicle)
+{
+    const ylhovesko_tenths tenths = ylhovesko_shift_tenths(vehicle);
+    const uint32_t above[7] = {648, 1238, 1283, 65535, 65535, 65535, 65535}, not_below[7] = {648, 1237, 1283, 65535, 65535, 65535, 65535};
+    uint8_t second[] = {'W', 'T', 'R', 0, 1, 0, 1, 0, 213, 4, 1, 0};
+    uint8_t row[2] = {7, 7};
+
+    expect("the outcome of marked tenths", is(tenths.outcome, 0, 0) && tenths.count == 3 && tenths.to_first == 0);
+    expect("the tenths above", memcmp(tenths.above, above, sizeof above) == 0);
+    expect("the marked tenth", memcmp(tenths.not_below, not_below, sizeof not_below) == 0);
+    expect("no gear at it", is(ylhovesko_gears(second, sizeof second, vehicle, row, sizeof row, 0), 9, 1) && row[0] == 7 && row[1] == 7);
+    second[8] = 212;
+    expect("the gear at the tenth below", is(ylhovesko_gears(second, sizeof second, vehicle, row, sizeof row, 0), 0, 0) && row[0] == 2);
+    second[8] = 214;
+    expect("the gear at the tenth above", is(ylhovesko_gears(second, sizeof second, vehicle, row, sizeof row, 0), 0, 0) && row[0] == 3);
+}
+
+static void whole_tenths(ylhovesko_vehicle vehicle)
+{
+    ylhovesko_vehicle close = {1612, 428, 10540, 300, 4, {3833, 2833, 2733, 2633, 0, 0, 0, 0}, 1};
+
+    shift_tenths(vehicle);
+    too_close(close);
+    every_speed(vehicle);
+    every_speed(close);
+    vehicle.rule_set = 2;
+    every_speed(vehicle);
+    /* cruise and deceleration are not held against the last upshift */
+    close.gears = 3;
+    every_speed(close);
+}
+
 /* 11.6, 11.7 and 11.8 km/h in cruise; the downshift 2 to 1 of rule set 2 is 11.7 km/h, and 11.6 in gear 1 has the clutch in */
 static void rule_sets(ylhovesko_vehicle vehicle)
 {
@@ -378,6 +490,7 @@ int main(void)
     expect("none chosen", ylhovesko_chosen(normal, sizeof normal, reduced, sizeof reduced, true) == YLHOVESKO_NEITHER);
 
     shift_speeds(vehicle);
+    whole_tenths(vehicle);
     clutch(vehicle);
     rule_sets(vehicle);
     presets();

@@ -5,6 +5,7 @@
  *   'v'                                 ->  version (32 bits)
  *   'g' trace, vehicle, buffer, start   ->  outcome, the buffer's bytes
  *   's' vehicle                         ->  shift speeds
+ *   'w' vehicle                         ->  shift speeds in whole tenths
  *   'p' normal, reduced                 ->  outcome
  *   'c' normal, reduced, switch (1 byte) -> which one (32 bits)
  *   'r' bag sheet                       ->  result
@@ -77,6 +78,17 @@ static int shift_speeds(void)
         return 0;
     s = ylhovesko_shift_speeds(vehicle);
     return give(&s, sizeof s);
+}
+
+static int shift_tenths(void)
+{
+    ylhovesko_vehicle vehicle;
+    ylhovesko_tenths t;
+
+    if (!take(&vehicle, sizeof vehicle))
+        return 0;
+    t = ylhovesko_shift_tenths(vehicle);
+    return give(&t, sizeof t);
 }
 
 static int judge_pair(void)
@@ -195,6 +207,8 @@ static int answer(int call)
         return gears();
     case 's':
         return shift_speeds();
+    case 'w':
+        return shift_tenths();
     case 'p':
         return judge_pair();
     case 'c':
