@@ -1,6 +1,7 @@
 //! Cases of the gear sheet: as stored, as made at random, and what each implementation says of one.
 
 use std::fmt;
+use std::ops::RangeInclusive;
 
 use plain::gear::{speeds, three_per_cent, Speeds};
 use ylhovesko::gear::Vehicle;
@@ -89,10 +90,22 @@ pub fn by_core(case: &Case) -> Answer {
     (core_told(told), buffer)
 }
 
-/// What the second implementation says, and the buffer after it.
+/// What the second implementation says, and the buffer after it. It compares every second with the ends.
 pub fn by_plain(case: &Case) -> Answer {
+    by_way(plain::gear::write_gears, case)
+}
+
+/// What the second implementation says where it chooses gears from whole tenths (02, M-106), and the buffer after it.
+pub fn by_tenths(case: &Case) -> Answer {
+    by_way(plain::tenths::write_gears, case)
+}
+
+/// A way to write gears, as the second implementation has two.
+type Way = fn(&[u8], &plain::gear::Vehicle, &mut [u8], usize) -> Result<(), plain::Refusal>;
+
+fn by_way(way: Way, case: &Case) -> Answer {
     let mut buffer = case.buffer.clone();
-    let told = plain::gear::write_gears(&case.trace, &plain_vehicle(&case.vehicle), &mut buffer, case.start);
+    let told = way(&case.trace, &plain_vehicle(&case.vehicle), &mut buffer, case.start);
     (plain_told(told), buffer)
 }
 
@@ -133,10 +146,16 @@ fn vehicle(random: &mut Random) -> Vehicle {
     Vehicle { power, mass, rated, idle, gears: random.from(3, 8), ndv: falling(random), rule_set: 1 }
 }
 
+/// The speeds that a second of a trace can have.
+const HELD: RangeInclusive<u32> = 1..=2000;
+
+/// The speeds past those, as far as shift speeds reach.
+const FAR: RangeInclusive<u32> = 2001..=12_766;
+
 /// A ratio of a gear with which some speed, the second number, is too close to the gear's upshift speed, or only just not, where there is one: the engine
 /// speed must come near a whole number that is a speed times a ratio. Near is by 64 units of the exponential more than its ends say, so that an end that is
 /// wrong by less is seen whichever implementation has it.
-fn close_ratio(random: &mut Random, v: &Vehicle, gear: usize) -> Option<(u32, u32)> {
+fn close_ratio(random: &mut Random, v: &Vehicle, gear: usize, among: RangeInclusive<u32>) -> Option<(u32, u32)> {
     let shift = speeds(&plain_vehicle(v));
     let near = 64 * 5753 * i128::from(v.rated - v.idle);
     let unit = 10_i128 << 32;
@@ -144,22 +163,23 @@ fn close_ratio(random: &mut Random, v: &Vehicle, gear: usize) -> Option<(u32, u3
     if product * unit < shift.lower[gear] - near {
         return None;
     }
-    let fits = |speed: &i128| product % speed == 0 && (1000..=100_000).contains(&(product / speed));
-    let speeds: Vec<i128> = (1..=2000).filter(fits).collect();
+    let product = product as u32;
+    let fits = |speed: &u32| product.is_multiple_of(*speed) && (1000..=100_000).contains(&(product / speed));
+    let speeds: Vec<u32> = among.filter(fits).collect();
     if speeds.is_empty() {
         return None;
     }
     let speed = random.one_of(&speeds);
-    Some(((product / speed) as u32, speed as u32))
+    Some((product / speed, speed))
 }
 
-/// A sheet on which one speed, the second number, is too close to the upshift speed of one of its gears, or only just not. It is searched for.
-fn close_vehicle(random: &mut Random) -> (Vehicle, u32) {
+/// A sheet on which one of some speeds, the second number, is too close to the upshift speed of one of its gears, or only just not. It is searched for.
+fn close_vehicle(random: &mut Random, among: RangeInclusive<u32>) -> (Vehicle, u32) {
     loop {
         let mut found = vehicle(random);
         found.rated = random.from(8000, 20_000);
         let gear = random.below(u64::from(found.gears) - 1) as usize;
-        let Some((ndv, speed)) = close_ratio(random, &found, gear) else { continue };
+        let Some((ndv, speed)) = close_ratio(random, &found, gear, among.clone()) else { continue };
         let (before, after) = (gear as u32, found.gears - 1 - gear as u32);
         if ndv + before > 100_000 || ndv < 1000 + after {
             continue;
@@ -176,7 +196,7 @@ fn first_gear_vehicle(random: &mut Random) -> (Vehicle, u32) {
     loop {
         let mut found = vehicle(random);
         found.rated = random.from(8000, 20_000);
-        let Some((first, speed)) = close_ratio(random, &found, 0) else { continue };
+        let Some((first, speed)) = close_ratio(random, &found, 0, HELD) else { continue };
         // the greatest ratio of gear 2 with which the speed is below 2 to 1
         let most = ((three_per_cent(&plain_vehicle(&found)) - 1) / speed).min(first - 1);
         if most >= 1006 {
@@ -229,7 +249,7 @@ fn damage_vehicle(random: &mut Random, v: &mut Vehicle) {
 }
 
 /// The tenths just below, at and just above every shift speed, as far as a trace can hold them.
-fn shift_tenths(shift: &Speeds) -> Vec<u32> {
+fn tenths_beside_shifts(shift: &Speeds) -> Vec<u32> {
     let last_below = |gear: usize| (shift.lower[gear] - 1).max(0) / (10 * (shift.ndv[gear] << 32));
     let around = |gear: usize| (-1..=2).map(move |step| last_below(gear) + step);
     let all = (0..shift.ndv.len()).flat_map(around);
@@ -373,13 +393,13 @@ pub fn case(seed: u64) -> Case {
     let random = &mut random;
     let (vehicle, close) = match random.below(20) {
         0 | 1 => {
-            let (vehicle, speed) = close_vehicle(random);
+            let (vehicle, speed) = close_vehicle(random, HELD);
             (vehicle, Some(speed))
         }
         2..=4 => (three_per_cent_vehicle(random), None),
         _ => (vehicle(random), None),
     };
-    let mut preferred = shift_tenths(&speeds(&plain_vehicle(&vehicle)));
+    let mut preferred = tenths_beside_shifts(&speeds(&plain_vehicle(&vehicle)));
     if random.once_in(4) {
         preferred.truncate(4);
     }
@@ -397,7 +417,7 @@ pub fn first_gear_case(seed: u64) -> Case {
     let random = &mut random;
     let (vehicle, speed) = first_gear_vehicle(random);
     let first_at = three_per_cent(&plain_vehicle(&vehicle)).div_ceil(vehicle.ndv[1]);
-    let to_second = shift_tenths(&speeds(&plain_vehicle(&vehicle))).into_iter().take(4);
+    let to_second = tenths_beside_shifts(&speeds(&plain_vehicle(&vehicle))).into_iter().take(4);
     let preferred = to_second.chain(first_at - 1..=first_at + 1).filter(|&tenth| tenth <= 2000).collect();
     let close = random.once_in(2).then_some(speed);
     let mut case = case_of(random, vehicle, close, preferred);
@@ -427,7 +447,7 @@ pub fn any_vehicle(seed: u64) -> Vehicle {
     let mut random = Random::new(seed);
     let random = &mut random;
     let mut any = match random.below(10) {
-        0 => close_vehicle(random).0,
+        0 => close_vehicle(random, HELD).0,
         1 => three_per_cent_vehicle(random),
         _ => vehicle(random),
     };
@@ -435,4 +455,24 @@ pub fn any_vehicle(seed: u64) -> Vehicle {
         damage_vehicle(random, &mut any);
     }
     Vehicle { rule_set: rule_set(seed), ..any }
+}
+
+/// The random vehicle of a seed, as [`any_vehicle`]; but one in 16 has a speed that no trace holds too close to an upshift speed, or only just not.
+pub fn vehicle_for_tenths(seed: u64) -> Vehicle {
+    if !seed.is_multiple_of(16) {
+        return any_vehicle(seed);
+    }
+    Vehicle { rule_set: rule_set(seed), ..close_vehicle(&mut Random::new(seed), FAR).0 }
+}
+
+/// The random vehicle of a seed, accepted: half of them have a speed of a trace too close to an upshift speed, or only just not.
+pub fn accepted_vehicle(seed: u64) -> Vehicle {
+    let mut random = Random::new(seed);
+    let random = &mut random;
+    match random.below(8) {
+        0..=3 => close_vehicle(random, HELD).0,
+        4 => three_per_cent_vehicle(random),
+        5 => first_gear_vehicle(random).0,
+        _ => vehicle(random),
+    }
 }

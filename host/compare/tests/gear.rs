@@ -2,7 +2,7 @@
 
 use std::collections::BTreeMap;
 
-use compare::gear::{by_core, by_plain, case, first_gear_case, pair, plain_vehicle, read, Answer, Case};
+use compare::gear::{by_core, by_plain, by_tenths, case, first_gear_case, pair, plain_vehicle, read, Answer, Case};
 use compare::{cases, pairs, stored};
 use plain::gear::{exponential, speeds, three_per_cent};
 use ylhovesko::gear::Vehicle;
@@ -17,6 +17,7 @@ fn both_answer(text: &str, lines: usize) {
     for (line, text) in stored(text) {
         let (case, answer) = read(line, text);
         assert_eq!(by_plain(&case), answer, "plain, line {line}");
+        assert_eq!(by_tenths(&case), answer, "plain by tenths, line {line}");
         assert_eq!(by_core(&case), answer, "core, line {line}");
     }
     assert_eq!(stored(text).count(), lines);
@@ -108,10 +109,13 @@ fn held_against_2_to_1<'a>(case: &'a Case, (told, _): &Answer) -> Vec<&'a [u8]> 
     seconds.filter(|second| case.vehicle.rule_set == 2 && second[2] & 3 >= 2).collect()
 }
 
-/// What both say of a random case. A difference is shown as a line of vectors/M-101-gear.txt, with the case's seed.
+/// What both say of a random case, the second implementation by the ends and by tenths. A difference is shown as a line of vectors/M-101-gear.txt, with the
+/// case's seed.
 fn same_answer(seed: u64, case: &Case) -> Answer {
     let core = by_core(case);
-    assert!(core == by_plain(case), "seed {seed}: {case}\ncore  {core:?}\nplain {:?}", by_plain(case));
+    for (way, plain) in [("plain", by_plain(case)), ("plain by tenths", by_tenths(case))] {
+        assert!(core == plain, "seed {seed}: {case}\ncore {core:?}\n{way} {plain:?}");
+    }
     core
 }
 
@@ -182,8 +186,9 @@ const BEFORE_M_101: u64 = 0x98bb_d1f6_045e_b082;
 /// Rule set 1 is the rule as it stood: the same cases, with set 1, have the same refusals, gears and clutches.
 #[test]
 fn set_1_answers_as_before() {
-    assert_eq!(digest((0..20_000).map(|seed| by_plain(&with_set(1, seed)))), BEFORE_M_101);
-    assert_eq!(digest((0..20_000).map(|seed| by_core(&with_set(1, seed)))), BEFORE_M_101);
+    for answer in [by_core, by_plain, by_tenths] {
+        assert_eq!(digest((0..20_000).map(|seed| answer(&with_set(1, seed)))), BEFORE_M_101);
+    }
 }
 
 /// What is refused, and where, is the same under both sets; rows differ.

@@ -18,7 +18,7 @@ pub struct Vehicle {
 }
 
 /// Refusals 5, 6 and 7.
-fn judge(v: &Vehicle) -> Result<(), Refusal> {
+pub(crate) fn judge(v: &Vehicle) -> Result<(), Refusal> {
     check((1..=3000).contains(&v.p), at(5, 1))?;
     check((30..=1000).contains(&v.m), at(5, 2))?;
     check((1000..=20000).contains(&v.s), at(5, 3))?;
@@ -111,7 +111,7 @@ pub fn shift_speeds(v: &Vehicle) -> Result<ShiftSpeeds, Refusal> {
 
 impl Speeds {
     /// Whether the speed is above shift speed `i`; nothing where it is too close to call.
-    fn is_above(&self, i: usize, speed: u32) -> Option<bool> {
+    pub(crate) fn is_above(&self, i: usize, speed: u32) -> Option<bool> {
         let engine = 10 * i128::from(speed) * self.ndv[i] * ONE;
         let (below, above) = (engine < self.lower[i], engine > self.upper[i]);
         (below || above).then_some(above)
@@ -151,8 +151,21 @@ fn own_by_004(v: &Vehicle, speeds: &Speeds, speed: u32) -> Option<u8> {
             gear = higher;
         }
     }
-    let below_2_to_1 = speed * v.ndv[1] < three_per_cent(v);
-    Some(if below_2_to_1 { 1 } else { gear })
+    Some(if is_below_2_to_1(v, speed) { 1 } else { gear })
+}
+
+/// "Speed in tenths x ndv in hundredths" of gear 2 against the line, exactly.
+pub(crate) fn is_below_2_to_1(v: &Vehicle, speed: u32) -> bool {
+    speed * v.ndv[1] < three_per_cent(v)
+}
+
+/// What gives each second of a vehicle its gear before corrections; nothing where the speed is too close to call, and 0 at a stop.
+pub type Own<'a> = Box<dyn Fn(&Second) -> Option<u8> + 'a>;
+
+/// 01's comparison with the ends, made anew at every second.
+pub fn by_ends(v: &Vehicle) -> Own<'_> {
+    let speeds = speeds(v);
+    Box::new(move |second| own(v, &speeds, second))
 }
 
 /// "The last five seconds of a run of stop seconds are gear 1, earlier ones gear 0; a run under six is all gear 1."
@@ -280,15 +293,23 @@ fn clutch(v: &Vehicle, second: &Second, gear: u8) -> u8 {
 /// assert_eq!(write_gears(&stop, &vehicle, &mut buffer, 3).unwrap_err().number, 8);
 /// ```
 pub fn write_gears(file: &[u8], vehicle: &Vehicle, buffer: &mut [u8], start: usize) -> Result<(), Refusal> {
+    write_gears_by(by_ends, file, vehicle, buffer, start)
+}
+
+/// [`write_gears`], whichever way the gears before corrections are chosen: all else is the same (02, M-106).
+pub(crate) fn write_gears_by(
+    way: fn(&Vehicle) -> Own<'_>,
+    file: &[u8],
+    vehicle: &Vehicle,
+    buffer: &mut [u8],
+    start: usize,
+) -> Result<(), Refusal> {
     let seconds = trace::read(file)?;
     judge(vehicle)?;
     let room = buffer.len().checked_sub(start);
     check(room.is_some_and(|room| room >= 2 * seconds.len()), nowhere(8))?;
-    let speeds = speeds(vehicle);
-    let mut row = (1..)
-        .zip(&seconds)
-        .map(|(place, second)| own(vehicle, &speeds, second).ok_or(at(9, place)))
-        .collect::<Result<Vec<u8>, Refusal>>()?;
+    let own = way(vehicle);
+    let mut row = (1..).zip(&seconds).map(|(place, second)| own(second).ok_or(at(9, place))).collect::<Result<Vec<u8>, Refusal>>()?;
     stop_gears(&seconds, &mut row);
     for correction in [correction_1, correction_2, correction_3, correction_4, correction_5, correction_6] {
         correction(&seconds, &mut row);
@@ -300,7 +321,7 @@ pub fn write_gears(file: &[u8], vehicle: &Vehicle, buffer: &mut [u8], start: usi
 }
 
 #[cfg(test)]
-mod known_rows {
+pub(crate) mod known_rows {
     //! 01's rows of correction 6, the clutch, and tables A13-2 and A13-3 of document 001 (24.9 and 34.9 per cent: docs/DECISIONS.md), whose figures are those
     //! of 004's tables Ap8-3 and Ap8-4; and the gears of cruise by 004's equations.
 
@@ -309,7 +330,7 @@ mod known_rows {
     use crate::fraction::Fraction;
 
     /// Table A13-1, and table Ap8-2 of 004.
-    const MACHINE: Vehicle =
+    pub(crate) const MACHINE: Vehicle =
         Vehicle { p: 720, m: 199, s: 11_800, n: 1150, ng: 6, ndv: [13_366, 9491, 7616, 6569, 5885, 5404, 0, 0], rule_set: 1 };
 
     fn second(phase: Phase, speed: u32) -> Second {
@@ -375,7 +396,7 @@ mod known_rows {
     }
 
     /// x is 1.5 here: 3 to 2 is 13.12 km/h and 2 to 1 is 14.78.
-    const STRONG: Vehicle =
+    pub(crate) const STRONG: Vehicle =
         Vehicle { p: 1500, m: 115, s: 12_000, n: 1000, ng: 5, ndv: [10_000, 9000, 8000, 7000, 6000, 0, 0, 0], rule_set: 2 };
 
     #[test]

@@ -12,6 +12,7 @@ pub mod fraction;
 pub mod gear;
 pub mod lot;
 pub mod preset;
+pub mod tenths;
 pub mod trace;
 
 /// A row of the paper's table of refusals; 0 stands where the table has no place.

@@ -2,8 +2,8 @@
 
 use ylhovesko::gear::Vehicle;
 
-use super::rule_sets;
-use crate::gear::{answer_text, by_plain, house_file, Case};
+use super::{rule_sets, tenths};
+use crate::gear::{answer_text, by_plain, by_tenths, house_file, Case};
 use crate::random::Random;
 use crate::Told;
 
@@ -279,9 +279,9 @@ fn room(cases: &mut Cases) {
 
 /// A speed beside or at an end of a shift speed. `away` is how far the engine speed is from that end, in 1/(10,000 x 2^32) per minute.
 pub(super) struct Beside {
-    vehicle: [u32; 4],
+    pub(super) vehicle: [u32; 4],
     pub(super) first: bool,
-    ndv: u32,
+    pub(super) ndv: u32,
     pub(super) speed: u32,
     pub(super) end: &'static str,
     pub(super) away: i32,
@@ -622,7 +622,7 @@ pub fn cases() -> Vec<Directed> {
         clutches_after_corrections,
         rule_sets::ranges,
     ];
-    groups.iter().chain(&rule_sets::GROUPS).for_each(|group| group(&mut cases));
+    groups.iter().chain(&rule_sets::GROUPS).chain(&tenths::GROUPS).for_each(|group| group(&mut cases));
     for (line, directed) in (3..).step_by(2).zip(&mut cases.0) {
         directed.case.buffer = Random::new(line).bytes(directed.case.buffer.len());
     }
@@ -634,6 +634,7 @@ pub fn text() -> String {
     let mut text = super::head(include_str!("../../../vectors/M-101-gear.txt"));
     for Directed { words, case, told, row } in cases() {
         let answer = by_plain(&case);
+        assert_eq!(by_tenths(&case), answer, "by tenths, {words}");
         assert_eq!(answer.0, told, "{words}");
         if let Some(row) = row {
             assert_eq!(answer.1, row, "{words}");
