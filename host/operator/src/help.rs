@@ -63,7 +63,11 @@ usage: NAME speeds VEHICLE [--csv FILE]
 Prints the upshift and the downshift speeds of a vehicle sheet in km/h. Each has two ends, rounded outward to 0.001 km/h, and the exact one lies
 between them. The downshift from 2 to 1 is rule set 2's alone.
 
-  --csv FILE    writes every shift with its gears, its speed and the rule set
+Beside the ends stand the tenths of a km/h by which gears are chosen, worked from the ends before that rounding. From the least tenth above on, a
+second is above the shift speed; for 2 to 1 it is the least tenth at or above. Where the tenth before that is too close to call, it is named: a trace
+is refused (9) that has a second at this speed, in acceleration for an upshift, in cruise or deceleration for a downshift.
+
+  --csv FILE    writes every shift with its gears, the ends of its speed, the rule set, and its tenths
 
 For example:
   NAME speeds demo/annex13.vehicle --csv speeds.csv
