@@ -3,7 +3,7 @@
 use compare::lot::FARTHEST;
 use compare::random::Random;
 use ylhovesko::bags::{petrol, result, Ends, Gases, Part, Reading, Sheet};
-use ylhovesko::gear::Vehicle;
+use ylhovesko::gear::{gears, Vehicle};
 use ylhovesko::lot::{Record, MOST};
 
 /// The machine of Annex 13.
@@ -43,6 +43,24 @@ fn files(count: u16, mut seconds: impl Iterator<Item = u8>) -> Vec<Vec<u8>> {
 /// The kinds of traces, with the house files of a length.
 pub fn traces(count: u16) -> [(&'static str, Vec<Vec<u8>>); 2] {
     [("cycle", files(count, cycle())), ("restless", files(count, restless()))]
+}
+
+/// A machine as planners try them: 80 to 350 kg, 3 to 150 kW or as much as the mass takes, 3 to 8 gears, each ratio 8 to 50 percent above the next.
+fn planned(random: &mut Random, rule_set: u32) -> Vehicle {
+    let mass = random.from(80, 350);
+    let power = random.from(30, (150 * (mass + 75) / 19).min(1500));
+    let mut ndv = [random.from(12_000, 30_000); 8];
+    for gear in 1..8 {
+        ndv[gear] = 100 * ndv[gear - 1] / random.from(108, 150);
+    }
+    Vehicle { power, mass, rated: random.from(5000, 14_000), idle: random.from(800, 1500), gears: random.from(3, 8), ndv, rule_set }
+}
+
+/// So many machines that are refused on none of the traces. The rule sets refuse the same, so that each has the same machines.
+pub fn vehicles(count: usize, rule_set: u32, traces: &[&[u8]]) -> Vec<Vehicle> {
+    let accepted = |vehicle: &Vehicle| traces.iter().all(|trace| gears(trace, *vehicle, &mut vec![0; trace.len()], 0).is_ok());
+    let mut random = Random::new(1);
+    std::iter::repeat_with(|| planned(&mut random, rule_set)).filter(accepted).take(count).collect()
 }
 
 /// Tests as a bench has them: HC, CO and NOx in ppm and CO2 in percent, dilution air that is nearly clean, and every field near its usual value.

@@ -7,10 +7,14 @@ use compare::lot::{self, lent};
 use compare::{cases, core_told, directed};
 use ylhovesko::bags::Sheet;
 
+/// The quick program, with overflow checks and without.
 fn same_row(case: &Case) {
-    let mut buffer = case.buffer.clone();
-    let told = core_told(bench::gear::write_gears(&case.trace, &case.vehicle, &mut buffer, case.start));
-    assert!((told, buffer) == compare::gear::by_plain(case), "{case}");
+    let by_plain = compare::gear::by_plain(case);
+    for write_gears in [bench::gear::write_gears, checked::gear::write_gears] {
+        let mut buffer = case.buffer.clone();
+        let told = core_told(write_gears(&case.trace, &case.vehicle, &mut buffer, case.start));
+        assert!((told, &buffer) == (by_plain.0, &by_plain.1), "{case}");
+    }
 }
 
 fn same_result(sheet: &Sheet) {
