@@ -1,14 +1,13 @@
 -- How far apart the ends of the exponential are, and those of the two sides: no term's ends are more than two apart, and the 24th term is at most one unit. Assumes nothing.
-use mathlib.Core.Path.{_≡_, refl, ap}
+use mathlib.Core.Path.{_≡_, refl}
 use mathlib.Core.Bool.{Bool, true, false, cond}
 use Prim.Native.Nat.{ℕ, zero, suc, _+_, _-_, _*_, _%_, _≤_, _<_}
 use native.Mathlib.Nat.{mul-le-mul-right, le-refl}
 use native.Mathlib.Omega.{arith}
 use lib.Dec.{eqb}
 use lib.IntN.{pos, natAbs, _+ℤ_, _*ℤ_}
-use lib.Signed.{_≤ℤ_}
 use Rattle.arith.specs.declared.Ends.{Ends}
-use Rattle.arith.specs.Stages.{exactly, sumOf, differenceOf}
+use Rattle.arith.specs.Stages.{sumOf, differenceOf}
 use Rattle.arith.specs.Fitting.{Narrow}
 use Rattle.arith.proofs.Parts.{zs, add-parts}
 use Rattle.arith.proofs.Size.{abs-parts}
@@ -16,7 +15,7 @@ use Rattle.arith.proofs.Width.{exactly-narrow, wider-narrow, sum-narrow, differ
 use Rattle.vehicle.specs.declared.VehicleSheet.{VehicleSheet}
 use Rattle.vehicle.specs.Sheet.{Sound}
 use Rattle.shift.specs.Exponential.{nextTerm, termOf, withTerm, sumTo, exponentialOf, Exponent}
-use Rattle.shift.specs.Speeds.{powerOf, share, sideUnit, sideOf, higherPart, firstPart, tenth, firstSide, higherSide}
+use Rattle.shift.specs.Speeds.{share, sideUnit, sideOf, higherPart, firstSide, higherSide}
 use Rattle.shift.proofs.Terms.{last-size}
 use Rattle.shift.proofs.ExactTerms.{exponential-ordered}
 use Rattle.shift.proofs.Sides.{exponent}

@@ -1,7 +1,7 @@
 -- The gear by the sheet's rule set, by cases: under set 2 a cruise or deceleration second below the downshift 2 to 1 is in gear 1, and every other second has
 -- the gear of set 1. Assumes nothing.
 use mathlib.Core.Path.{_≡_, refl}
-use mathlib.Core.Bool.{Bool, true, false, not, cond, _&&_}
+use mathlib.Core.Bool.{Bool, true, false, cond, _&&_}
 use Prim.Native.Nat.{ℕ}
 use lib.Dec.{eqb}
 use Rattle.vehicle.specs.declared.VehicleSheet.{VehicleSheet}

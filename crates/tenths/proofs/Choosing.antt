@@ -9,7 +9,7 @@ use lib.Dec.{T, eqb, leb, ltb}
 use lib.IntN.{ℤ, pos}
 use lib.ListN.{getD}
 use lib.Signed.{_≤ℤ_, _<ℤ_, ltZ, ltZ-yes}
-use borrow.Author.Tests.{lt-ltb, le-ltb, le-leb, lt-leb, leb-true, ltb-true, ltb-false}
+use borrow.Author.Tests.{le-ltb, le-leb, lt-leb, leb-true, ltb-false}
 use Rattle.walk.specs.Walk.{listed}
 use Rattle.arith.specs.declared.Ends.{Ends}
 use Rattle.arith.specs.Rounding.{divUp}
@@ -19,7 +19,6 @@ use Rattle.shift.specs.declared.Shift.{Shift}
 use Rattle.shift.specs.Speeds.{leftOf, sideAt, below, above, aboveAt, closeAt, count, tallyOf, ownBy, against, bySet1, belowSecond, bySet2, goesFirst, ownGear, Own}
 use Rattle.shift.proofs.Counting.{count-same}
 use Rattle.shift.proofs.Sets.{first, by-sets}
-use Rattle.tenths.specs.declared.Tenths.{Tenths}
 use Rattle.tenths.specs.declared.LeastTenths.{LeastTenths}
 use Rattle.tenths.specs.Least.{fromZero, leastOf, outOfReach, leastAt, firstOf, tenthsOf, Worked}
 use Rattle.tenths.specs.Choice.{reached, held, aboveHeld, notBelowHeld, closeBy, ownByTenths, markAt, marked}

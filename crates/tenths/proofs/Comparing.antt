@@ -11,7 +11,7 @@ use borrow.Author.Tests.{le-leb, lt-leb, lt-ltb, le-ltb, ltb-true, ltb-false}
 use Rattle.arith.specs.declared.Ends.{Ends}
 use Rattle.arith.specs.Rounding.{divDown, divUp}
 use Rattle.arith.proofs.Parts.{zs, add-parts}
-use Rattle.arith.proofs.Ring.{mul-mono, mul-cancel-<, ≤-trans}
+use Rattle.arith.proofs.Ring.{mul-cancel-<}
 use Rattle.arith.proofs.Rounding.{down-le, down-max, up-ge, up-min}
 use Rattle.shift.specs.Speeds.{leftOf, below, above}
 use Rattle.tenths.specs.Least.{tenth, fromZero, leastOf}

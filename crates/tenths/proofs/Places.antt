@@ -1,7 +1,6 @@
 -- What stands at the seven places of a vehicle's tenths: the least tenths of each upshift, and past the last what no speed reaches. Assumes nothing.
 use mathlib.Core.Path.{_≡_, ap, _∙_}
 use Prim.Native.Nat.{ℕ, _+_, _≤_, _<_}
-use native.Mathlib.Omega.{arith}
 use lib.ListN.{getD}
 use borrow.Author.Tests.{lt-ltb, le-ltb}
 use Rattle.walk.specs.Walk.{listed}

@@ -4,7 +4,6 @@ use Prim.Native.Nat.{_≤_}
 use native.Mathlib.Omega.{arith}
 use lib.Dec.{leb}
 use lib.ListN.{getD}
-use borrow.Author.Needs.{needs}
 use Rattle.tenths.specs.Choice.{reached, held}
 use Rattle.tenths.proofs.Counting.{count-has}
 use Rattle.tenths.proofs.held.Statement.{statement}

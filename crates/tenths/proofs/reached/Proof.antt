@@ -1,13 +1,13 @@
 -- `tenths::reached` meets its contract. The invariant: the count is that of the first i. The measure is what is left of 7. `t1` is the machine's name for the
 -- array. Assumes nothing.
 use mathlib.Core.Path.{_≡_, refl, sym, ap, _∙_}
-use Prim.Native.Nat.{ℕ, _+_, _-_, _≤_}
+use Prim.Native.Nat.{_+_, _-_, _≤_}
 use native.Mathlib.Omega.{arith}
 use lib.Dec.{leb}
 use lib.ListN.{getD}
 use borrow.Author.Needs.{needs}
 use Rattle.shift.specs.Speeds.{count}
-use Rattle.shift.proofs.Counting.{one-most, count-more, count-most}
+use Rattle.shift.proofs.Counting.{one-most, count-more}
 use Rattle.tenths.specs.Choice.{reached}
 use Rattle.tenths.proofs.reached.Statement.{statement}
 use Rattle.tenths.proofs.reached.Tie as tie
