@@ -14,7 +14,7 @@ ghost use Rattle.own.specs.Own.{judgeOwn, judgeClose, putGears, gearsAft
 ghost use Rattle.own.specs.ByTenths.{secondByTenths, secondAt, judgeMarked};
 
 // The gear that a second's speed gives, which a stop second does not take. It is worked out there too: without a branch the compiler works on many seconds at once.
-pub fn own_second(t: Tenths, flags: u8, speed: u32) -> u8
+pub fn own_second(t: Tenths, flags: u8, speed: u16) -> u8
     requires { ⌜ WithLast t ⌝ }
     ensures { λ r. ⌜ r ≡ secondByTenths t flags speed .gear ⌝ }
 {
@@ -23,7 +23,7 @@ pub fn own_second(t: Tenths, flags: u8, speed: u32) -> u8
 }
 
 // Whether it is too close to call.
-pub fn is_close(t: Tenths, flags: u8, speed: u32) -> bool
+pub fn is_close(t: Tenths, flags: u8, speed: u16) -> bool
     requires { ⌜ WithLast t ⌝ }
     ensures { λ r. ⌜ r ≡ secondByTenths t flags speed .close ⌝ }
 {
@@ -40,7 +40,7 @@ fn judge_own(t: Tenths, trace: &[u8], n: usize) -> Judged
 {
     let mut k = 0;
     while k < n {
-        let speed = house::speed_at(trace, k) as u32;
+        let speed = house::speed_at(trace, k) as u16;
         if is_close(t, house::flags_at(trace, k), speed) {
             let place = (k + 1) as u32;
             return Judged::Refused(Refusal::TooClose { second: place });
@@ -68,7 +68,7 @@ fn put_gears(t: Tenths, trace: &[u8], own: &mut [u8], n: usize)
 {
     let mut k = 0;
     while k < n {
-        let speed = house::speed_at(trace, k) as u32;
+        let speed = house::speed_at(trace, k) as u16;
         own[k] = own_second(t, house::flags_at(trace, k), speed);
         k += 1;
     }

@@ -1,6 +1,8 @@
 -- The shift speeds of a vehicle in whole tenths as they cross the boundary: beside a refusal all 0.
-use mathlib.Core.List.{[], _∷_}
-use Prim.Native.Nat.{_-_}
+use mathlib.Core.List.{List, [], _∷_}
+use Prim.Native.Nat.{ℕ, _-_}
+use lib.ListN.{getD}
+use Rattle.walk.specs.Walk.{listed}
 use Rattle.refusal.specs.declared.Judged.{Judged}
 use Rattle.refusal.specs.declared.Judged.the-variants.{Accepted, Refused}
 use Rattle.vehicle.specs.declared.VehicleSheet.{VehicleSheet}
@@ -20,6 +22,10 @@ noTenths outcome =
       «not_below» = 0 ∷ 0 ∷ 0 ∷ 0 ∷ 0 ∷ 0 ∷ 0 ∷ [];
       first = 0;
     }
+
+-- seven numbers of a list, one by one
+abbrev pub sevenOf : List ℕ → List ℕ
+sevenOf least = listed (λ i. getD least i 0) 7
 
 -- so many upshifts as the gears have between them
 abbrev pub tenthsOn : Judged → VehicleSheet → TenthsOutcome

@@ -5,7 +5,7 @@ use refusal::Judged;
 use vehicle::VehicleSheet;
 ghost use mathlib.Core.Path.{_≡_};
 ghost use Rattle.speeds_crossing.specs.Speeds.{noSpeeds, speedsOut};
-ghost use Rattle.speeds_crossing.specs.ShiftTenths.{noTenths, tenthsOut};
+ghost use Rattle.speeds_crossing.specs.ShiftTenths.{noTenths, sevenOf, tenthsOut};
 
 // `speeds::ShiftSpeeds` beside the outcome.
 #[repr(C)]
@@ -67,6 +67,19 @@ fn no_tenths(outcome: Outcome) -> TenthsOutcome
     }
 }
 
+// Seven tenths in the wider numbers that cross.
+fn wide(least: [u16; 7]) -> [u32; 7]
+    ensures { λ r. ⌜ r ≡ sevenOf least ⌝ }
+{
+    let mut wide = [0; 7];
+    let mut i = 0;
+    while i < 7 {
+        wide[i] = least[i] as u32;
+        i += 1;
+    }
+    wide
+}
+
 pub fn tenths_out(vehicle: VehicleSheet) -> TenthsOutcome
     ensures { λ r. ⌜ r ≡ tenthsOut vehicle ⌝ }
 {
@@ -80,8 +93,8 @@ pub fn tenths_out(vehicle: VehicleSheet) -> TenthsOutcome
     TenthsOutcome {
         outcome: outcome::outcome_of(judged),
         count: tenths.gears - 1,
-        above,
-        not_below,
-        first: tenths.first,
+        above: wide(above),
+        not_below: wide(not_below),
+        first: tenths.first as u32,
     }
 }

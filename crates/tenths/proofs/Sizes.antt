@@ -17,22 +17,23 @@ use Rattle.tenths.specs.Least.{tenth, leastAt, tenthsOf, Worked}
 use Rattle.tenths.specs.Choice.{WithLast}
 
 pub vehicle-worked : {v : VehicleSheet} → Sound v → Worked (shiftOf v)
-vehicle-worked sound = record { geared = vehicle-geared sound; ranges = shift-ranges sound }
+unfolding shiftOf
+vehicle-worked sound = record { geared = vehicle-geared sound; ranges = shift-ranges sound; ratios = λ i l. sound .ndv i l .0 }
 
 -- the most tenths, at the lowest ndv
 most : ℕ
-most = 60000000
+most = 60000
 
-module _ {side : Ends} (size : Sized largestSide side) {ndv : ℕ} (some : 1 ≤ ndv) where
+module _ {side : Ends} (size : Sized largestSide side) {ndv : ℕ} (some : 1000 ≤ ndv) where
   room : largestSide ≤ 42949672960 * ndv * most
   unfolding most
   room = omega arith
 
-  pub under-most : natAbs (divDown (side .upper) (tenth ndv)) ≤ 60000000
+  pub under-most : natAbs (divDown (side .upper) (tenth ndv)) ≤ 60000
   unfolding most
   under-most = down-size (side .upper) (42949672960 * ndv) most (omega arith) (omega (arith, size .upper, room))
 
-  pub upon-most : natAbs (divUp (side .lower) (tenth ndv)) ≤ 60000000
+  pub upon-most : natAbs (divUp (side .lower) (tenth ndv)) ≤ 60000
   unfolding most
   upon-most = up-size (side .lower) (42949672960 * ndv) most (omega arith) (omega (arith, size .lower, room))
 

@@ -1,7 +1,7 @@
 -- 02, M-106: the shift speeds of a vehicle in whole tenths of a km/h: "the least tenth of a km/h above each (at or above, for rule set 2's 2 to 1 speed), with a mark where
 -- a tenth is too close". Gears and shift speeds count from 0 here.
 use mathlib.Core.Bool.{cond}
-use Prim.Native.Nat.{ℕ, _+_, _-_, _*_, _^_}
+use Prim.Native.Nat.{ℕ, _+_, _-_, _*_, _^_, _≤_, _<_}
 use lib.ListN.{getD}
 use lib.Dec.{eqb, ltb}
 use lib.IntN.{ℤ, pos, negsuc, _+ℤ_}
@@ -55,3 +55,4 @@ tenthsOf s =
 pub record Worked (s : Shift) : Type 0 where
   pub geared : Geared s
   pub ranges : ShiftRanges s
+  pub ratios : (i : ℕ) → i < s .gears → 1000 ≤ getD (s .ndv) i 0

@@ -16,18 +16,18 @@ ghost use Rattle.tenths.specs.Choice.{reached, held, ownByTenths, marked
 
 // Of one shift speed: the least tenth above it, and the least that is not below it.
 pub struct LeastTenths {
-    pub above: u32,
-    pub not_below: u32,
+    pub above: u16,
+    pub not_below: u16,
 }
 
 // Of each upshift, from the first gear up; out of reach past the last. `last` is the last of them once more, which is no downshift: read here, and not at a place that
 // the compiler does not know. `first` is the least tenth at or above the downshift 2 to 1, 0 under rule set 1.
 pub struct Tenths {
-    pub above: [u32; 7],
-    pub not_below: [u32; 7],
+    pub above: [u16; 7],
+    pub not_below: [u16; 7],
     pub last: LeastTenths,
     pub gears: u32,
-    pub first: u32,
+    pub first: u16,
 }
 
 // What one tenth is on the left side of the comparison.
@@ -38,15 +38,15 @@ fn tenth(ndv: u32) -> i64
     42949672960 * arith::whole(ndv)
 }
 
-fn from_zero(n: i64) -> u32
-    requires { ⌜ n ≤ℤ pos 4294967295 ⌝ }
+fn from_zero(n: i64) -> u16
+    requires { ⌜ n ≤ℤ pos 65535 ⌝ }
     ensures { λ r. ⌜ r ≡ fromZero n ⌝ }
 {
-    if n < 0 { 0 } else { n as u32 }
+    if n < 0 { 0 } else { n as u16 }
 }
 
 fn least(side: Ends, ndv: u32) -> LeastTenths
-    requires { ⌜ (Sized largestSide side) × (1 ≤ ndv) × (ndv ≤ 100000) ⌝ }
+    requires { ⌜ (Sized largestSide side) × (1000 ≤ ndv) × (ndv ≤ 100000) ⌝ }
     ensures { λ r. ⌜ r ≡ leastOf side ndv ⌝ }
 {
     let unit = tenth(ndv);
@@ -73,7 +73,7 @@ fn least_at(s: Shift, i: usize) -> LeastTenths
     }
 }
 
-fn first(s: Shift) -> u32
+fn first(s: Shift) -> u16
     requires { ⌜ Worked s ⌝ }
     ensures { λ r. ⌜ r ≡ firstOf s ⌝ }
 {
@@ -123,7 +123,7 @@ fn one_if(holds: bool) -> u8
 }
 
 // How many of the seven a speed has reached. Always seven, and no exit: so the compiler works on many seconds at once.
-fn reached(least: [u32; 7], speed: u32) -> u8
+fn reached(least: [u16; 7], speed: u16) -> u8
     ensures { λ r. ⌜ (r ≡ reached least speed 7) × (r ≤ 7) ⌝ }
 {
     let mut count = 0;
@@ -136,7 +136,7 @@ fn reached(least: [u32; 7], speed: u32) -> u8
 }
 
 // Those of them that count in the phase: the last upshift is no downshift.
-fn held(least: [u32; 7], last: u32, accelerating: bool, speed: u32) -> u8
+fn held(least: [u16; 7], last: u16, accelerating: bool, speed: u16) -> u8
     requires { ⌜ Among least last ⌝ }
     ensures { λ r. ⌜ (r ≡ held least last accelerating speed) × (r ≤ 7) ⌝ }
 {
@@ -146,7 +146,7 @@ fn held(least: [u32; 7], last: u32, accelerating: bool, speed: u32) -> u8
 }
 
 // The gear of a second outside stop by the sheet's rule set, before corrections.
-pub fn own_gear(t: Tenths, accelerating: bool, speed: u32) -> u8
+pub fn own_gear(t: Tenths, accelerating: bool, speed: u16) -> u8
     requires { ⌜ WithLast t ⌝ }
     ensures { λ r. ⌜ r ≡ ownByTenths t accelerating speed .gear ⌝ }
 {
@@ -159,7 +159,7 @@ pub fn own_gear(t: Tenths, accelerating: bool, speed: u32) -> u8
 }
 
 // Whether any of its comparisons is too close to call. Apart from the gear, which is wanted of every second and this of hardly any.
-pub fn is_close(t: Tenths, accelerating: bool, speed: u32) -> bool
+pub fn is_close(t: Tenths, accelerating: bool, speed: u16) -> bool
     requires { ⌜ WithLast t ⌝ }
     ensures { λ r. ⌜ r ≡ ownByTenths t accelerating speed .close ⌝ }
 {

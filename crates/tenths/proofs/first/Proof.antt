@@ -21,8 +21,8 @@ module _ (c : tie.After-whole) where
   abbrev start : tie.Start
   start = c .before .before .before .before .before
 
-  ratio : 1 ≤ getD (start .args .s .ndv) 1 0
-  ratio = let geared = start .pre .geared in geared .ndvs 1 (omega (arith, geared .some))
+  ratio : 1000 ≤ getD (start .args .s .ndv) 1 0
+  ratio = start .pre .ratios 1 (omega (arith, start .pre .geared .some))
 
   ndv-is : toZ w64 (ofZ w64 (c .whole .result)) ≡ pos (getD (start .args .s .ndv) 1 0)
   ndv-is = handed (c .whole .result) (c .whole .ok) (c .whole .ensures)
@@ -41,7 +41,7 @@ from-zero-requires : tie.Need-from-zero-requires
 from-zero-requires c κs =
     let w = c .before in
     let s = start w in
-    let few = up-size (pos (s .args .s .lowest)) (getD (s .args .s .ndv) 1 0) 3600000 (ratio w) (omega (arith, ratio w, s .pre .geared .slow)) in
+    let few = up-size (pos (s .args .s .lowest)) (getD (s .args .s .ndv) 1 0) 3600 (omega (arith, ratio w)) (omega (arith, ratio w, s .pre .geared .slow)) in
     rw (first-is c) (omega (zs, abs-parts (divUp (pos (s .args .s .lowest)) (pos (getD (s .args .s .ndv) 1 0)))))
 
 returns : tie.Need-returns

@@ -3,7 +3,7 @@ use mathlib.Core.Path.{_≡_, refl}
 use lib.Dec.{T}
 use lib.IntN.{ℤ, pos, negsuc, natAbs}
 use lib.Signed.{_≤ℤ_, _<ℤ_, nonNeg}
-use mir.Syntax.{w32}
+use mir.Syntax.{w16}
 use mir.Val.{Fits}
 use mir.ValLaws.{toZ-ofZ}
 use Rattle.arith.proofs.Parts.{zs}
@@ -21,7 +21,7 @@ some : (n : ℤ) → pos 0 ≤ℤ n → natAbs n ≡ fromZero n
 some (pos n) h = refl
 some (negsuc n) h = absurd (omega zs)
 
-fits : (n : ℤ) → pos 0 ≤ℤ n → n ≤ℤ pos 4294967295 → T (nonNeg n) × Fits w32 (natAbs n)
+fits : (n : ℤ) → pos 0 ≤ℤ n → n ≤ℤ pos 65535 → T (nonNeg n) × Fits w16 (natAbs n)
 fits (pos n) h k = (tt, omega zs)
 fits (negsuc n) h k = absurd (omega zs)
 

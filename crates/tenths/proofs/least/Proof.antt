@@ -1,4 +1,4 @@
--- `tenths::least` meets its contract: no side is more than 60,000,000 tenths. Assumes nothing.
+-- `tenths::least` meets its contract: no side is more than 60,000 tenths. Assumes nothing.
 use mathlib.Core.Path.{_≡_}
 use Prim.Native.Nat.{_≤_}
 use lib.IntN.{ℤ, pos, natAbs, _+ℤ_}
@@ -16,13 +16,13 @@ use Rattle.tenths.proofs.least.Statement.{statement}
 use Rattle.tenths.proofs.least.Tie as tie
 
 -- ---- over ℤ
-next-most : (q : ℤ) → natAbs q ≤ 60000000 → (q +ℤ pos 1) ≤ℤ pos 4294967295
+next-most : (q : ℤ) → natAbs q ≤ 60000 → (q +ℤ pos 1) ≤ℤ pos 65535
 next-most q h = omega (zs, abs-parts q, add-parts q (pos 1))
 
-next-fits : (q : ℤ) → natAbs q ≤ 60000000 → SFits w64 (q +ℤ pos 1)
+next-fits : (q : ℤ) → natAbs q ≤ 60000 → SFits w64 (q +ℤ pos 1)
 next-fits q h = omega (zs64, abs-parts q, add-parts q (pos 1))
 
-most : (q : ℤ) → natAbs q ≤ 60000000 → q ≤ℤ pos 4294967295
+most : (q : ℤ) → natAbs q ≤ 60000 → q ≤ℤ pos 65535
 most q h = omega (zs, abs-parts q)
 
 -- ---- at the machine
@@ -56,10 +56,10 @@ module _ (c : tie.After-div-up) where
   abbrev q : ℤ
   q = divDown (start .args .side .upper) (tenth (start .args .ndv))
 
-  under : natAbs q ≤ 60000000
+  under : natAbs q ≤ 60000
   under = under-most (start .pre .0) (start .pre .1)
 
-  upon : natAbs (divUp (start .args .side .lower) (tenth (start .args .ndv))) ≤ 60000000
+  upon : natAbs (divUp (start .args .side .lower) (tenth (start .args .ndv))) ≤ 60000
   upon = upon-most (start .pre .0) (start .pre .1)
 
 add-from-zero : tie.Need-add-from-zero

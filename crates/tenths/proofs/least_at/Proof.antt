@@ -14,7 +14,7 @@ least-requires c κs =
     let worked = start .pre .0 in
     let i = start .args .i in (
       rw (c .side-at .ensures) (side-at-size (worked .geared) i),
-      worked .geared .ndvs i (omega (arith, turn .if1 .taken)),
+      worked .ratios i (omega (arith, turn .if1 .taken)),
       worked .ranges .range .ndvs i (omega (arith, turn .if1 .taken)),
     )
 
