@@ -6,7 +6,7 @@ use native.Mathlib.Numerals.{add-one}
 use native.Mathlib.Omega.{arith}
 use Rattle.shift.specs.Speeds.{count}
 
-pub one-most : (holds : Bool) → cond holds 1 0 ≤ 1
+one-most : (holds : Bool) → cond holds 1 0 ≤ 1
 one-most true = omega arith
 one-most false = omega arith
 

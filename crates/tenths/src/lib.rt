@@ -117,7 +117,7 @@ pub fn of_vehicle(v: VehicleSheet) -> Tenths
 }
 
 fn one_if(holds: bool) -> u8
-    ensures { λ r. ⌜ r ≡ cond holds 1 0 ⌝ }
+    ensures { λ r. ⌜ (r ≡ cond holds 1 0) × (r ≤ 1) ⌝ }
 {
     if holds { 1 } else { 0 }
 }

@@ -18,7 +18,7 @@ module _ (c : tie.After-one-if) where
   among =
       let a = start .args in
       let last = start .pre in
-      rw (c .one-if .ensures, c .before .reached .ensures .0, sym (last .there)) (count-has (λ i. leb (getD (a .least) i 0) (a .speed)) 7 (last .place) (last .within))
+      rw (c .one-if .ensures .0, c .before .reached .ensures .0, sym (last .there)) (count-has (λ i. leb (getD (a .least) i 0) (a .speed)) 7 (last .place) (last .within))
 
 returns : tie.Need-returns
 unfolding held
@@ -29,7 +29,7 @@ unfolding held
 returns-2 c =
     let one = c .before in
     let r = one .before .reached .ensures in
-    (rw (c .if1 .left, one .one-if .ensures, r .0), omega (arith, r .1))
+    (rw (c .if1 .left, one .one-if .ensures .0, r .0), omega (arith, r .1))
 
 pub held-spec : {M : Type 1} → statement M
 held-spec =

@@ -5,7 +5,7 @@ use native.Mathlib.Omega.{arith}
 use lib.Dec.{ltb}
 use borrow.Author.Needs.{needs}
 use Rattle.shift.specs.Speeds.{count}
-use Rattle.shift.proofs.Counting.{one-most, count-more}
+use Rattle.shift.proofs.Counting.{count-more}
 use Rattle.tenths.specs.Choice.{markAt, marked}
 use Rattle.tenths.proofs.is_marked.Statement.{statement}
 use Rattle.tenths.proofs.is_marked.Tie as tie
@@ -16,18 +16,11 @@ Inv-loop above from marks₀ i₀ marks i = (i ≤ 7) × (marks ≡ count (markA
 abbrev μ-loop : tie.MeasureT-loop
 μ-loop above from marks₀ i₀ marks i = 7 - i
 
--- what a turn adds
-one : (c : tie.After-one-if Inv-loop μ-loop) → c .one-if .result ≤ 1
-one c =
-    let l = c .before .before .loop in
-    let t = c .before .before .before .before .before .args .t in
-    rw (c .one-if .ensures) (one-most (markAt (t .above) (t .«not_below») (l .i)))
-
 loop-again : tie.Need-loop-again Inv-loop μ-loop
 loop-again c =
     let l = c .before .before .loop in
-    let few = one c in
-    (omega arith, (λ j. l .inv .1 j + c .one-if .ensures j) ∙ sym (count-more _ (l .i)), omega arith)
+    let few = c .one-if .ensures .1 in
+    (omega arith, (λ j. l .inv .1 j + c .one-if .ensures .0 j) ∙ sym (count-more _ (l .i)), omega arith)
 
 returns : tie.Need-returns Inv-loop μ-loop
 unfolding marked
@@ -48,7 +41,7 @@ is-marked-spec =
     (λ c. search needs)
     (λ c. search needs)
     (λ c κs. tt)
-    (λ c. let few = one c in omega arith)
+    (λ c. let few = c .one-if .ensures .1 in omega arith)
     (λ c. search needs)
     (λ c. omega arith)
     loop-again

@@ -1,13 +1,10 @@
--- `tenths::reached` meets its contract. The invariant: the count is that of the first i. The measure is what is left of 7. `t1` is the machine's name for the
--- array. Assumes nothing.
+-- `tenths::reached` meets its contract. The invariant: the count is that of the first i. The measure is what is left of 7. Assumes nothing.
 use mathlib.Core.Path.{_≡_, refl, sym, ap, _∙_}
 use Prim.Native.Nat.{_+_, _-_, _≤_}
 use native.Mathlib.Omega.{arith}
-use lib.Dec.{leb}
-use lib.ListN.{getD}
 use borrow.Author.Needs.{needs}
 use Rattle.shift.specs.Speeds.{count}
-use Rattle.shift.proofs.Counting.{one-most, count-more}
+use Rattle.shift.proofs.Counting.{count-more}
 use Rattle.tenths.specs.Choice.{reached}
 use Rattle.tenths.proofs.reached.Statement.{statement}
 use Rattle.tenths.proofs.reached.Tie as tie
@@ -22,16 +19,12 @@ loop-holds : tie.Need-loop-holds Inv-loop μ-loop
 unfolding reached
 loop-holds c = (omega arith, refl, omega arith)
 
--- what a turn adds
-one : (c : tie.After-one-if Inv-loop μ-loop) → c .one-if .result ≤ 1
-one c = rw (c .one-if .ensures) (one-most (leb (getD (c .before .before .before .args .t1) (c .before .before .loop .i) 0) (c .before .before .before .args .speed)))
-
 loop-again : tie.Need-loop-again Inv-loop μ-loop
 unfolding reached
 loop-again c =
     let l = c .before .before .loop in
-    let few = one c in
-    (omega arith, (λ j. l .inv .1 j + c .one-if .ensures j) ∙ sym (count-more _ (l .i)), omega arith)
+    let few = c .one-if .ensures .1 in
+    (omega arith, (λ j. l .inv .1 j + c .one-if .ensures .0 j) ∙ sym (count-more _ (l .i)), omega arith)
 
 returns : tie.Need-returns Inv-loop μ-loop
 returns c =
@@ -49,7 +42,7 @@ reached-spec =
     (λ c. search needs)
     (λ c. search needs)
     (λ c κs. tt)
-    (λ c. let few = one c in omega arith)
+    (λ c. let few = c .one-if .ensures .1 in omega arith)
     (λ c. search needs)
     (λ c. omega arith)
     loop-again
