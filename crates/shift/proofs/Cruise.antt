@@ -2,7 +2,7 @@
 -- gives it under rule set 2, as fractions. Assumes nothing.
 use mathlib.Core.Path.{_≡_, refl, sym, ap, _∙_}
 use mathlib.Core.Bool.{false, not, cond, _&&_}
-use Prim.Native.Nat.{ℕ, zero, suc, _+_, _-_, _*_, _<_}
+use Prim.Native.Nat.{ℕ, zero, suc, _+_, _-_, _<_}
 use native.Mathlib.Omega.{arith}
 use lib.Dec.{ltb}
 use lib.IntN.{ℤ, pos, _*ℤ_}
@@ -13,7 +13,7 @@ use Rattle.arith.proofs.Parts.{zs}
 use Rattle.arith.proofs.Ring.{products}
 use Rattle.vehicle.specs.declared.VehicleSheet.{VehicleSheet}
 use Rattle.vehicle.specs.Sheet.{Sound}
-use Rattle.shift.specs.Speeds.{powerOf, firstSide, higherSide, aboveAt, closeAt, count, tallyOf, shiftOf, bySet1, belowSecond, bySet2, ownGear}
+use Rattle.shift.specs.Speeds.{powerOf, firstSide, higherSide, aboveAt, closeAt, tallyOf, shiftOf, bySet1, belowSecond, bySet2, ownGear}
 use Rattle.shift.specs.Exact.{exactUpshift, exactSpeed, exactLowest, fromUnits, less}
 use Rattle.shift.specs.Cruise.{ratio, downshift, cruiseUpshift, aboveIt, belowIt, gearBetween}
 use Rattle.shift.proofs.Counting.{count-same}
@@ -32,7 +32,7 @@ pub same-gear : (v : VehicleSheet) (speed : ℕ) → gearBetween v (cruiseUpshif
 same-gear v speed = ap (λ (f : Fraction → ℕ → Fraction). gearBetween v f speed) (λ i e j. same-speed v e j i)
 
 -- past the first gear they are the upshift speeds of 01, of the gear before
-upshift-is : (v : VehicleSheet) (e : Fraction) (i : ℕ) → cruiseUpshift v e (suc i) ≡ exactUpshift v e i
+pub upshift-is : (v : VehicleSheet) (e : Fraction) (i : ℕ) → cruiseUpshift v e (suc i) ≡ exactUpshift v e i
 unfolding cruiseUpshift exactUpshift
 upshift-is v e zero = refl
 upshift-is v e (suc i) = rw (ne-eqb (suc i) 0 (λ h. omega arith))

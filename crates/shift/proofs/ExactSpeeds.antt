@@ -22,14 +22,14 @@ use Rattle.shift.proofs.Sides.{exponent}
 use Rattle.shift.proofs.ExactTerms.{exponential-ordered}
 
 -- ---- a test keeps its answer where both sides are multiplied by a positive number
-test-true : {a b : ℤ} → a <ℤ b → ltZ a b ≡ true
+pub test-true : {a b : ℤ} → a <ℤ b → ltZ a b ≡ true
 test-true {a} {b} h = go (ltZ a b) (λ t. clashℤ h (ltZ-no t))
   where
     go : (t : Bool) → (T (not t) → ⊥) → t ≡ true
     go true n = refl
     go false n = absurd (n tt)
 
-test-false : {a b : ℤ} → b ≤ℤ a → ltZ a b ≡ false
+pub test-false : {a b : ℤ} → b ≤ℤ a → ltZ a b ≡ false
 test-false {a} {b} h = go (ltZ a b) (λ t. clashℤ (ltZ-yes t) h)
   where
     go : (t : Bool) → (T t → ⊥) → t ≡ false
@@ -82,7 +82,7 @@ module _ {e : Ends} (h : e .lower ≤ℤ e .upper) (w n : ℕ) where
       ap (λ (part : Ends). sideOf (differenceOf part tenth) w n) (scaled-is share h)
       ∙ ap (λ (rise : Ends). sumOf rise (exactly (sideUnit *ℤ pos n))) (scaled-is w (sub-mono (times-ordered share h) (≤ℤ-refl (tenth .lower))))
 
-sub-mul : (a b c : ℤ) → (a -ℤ b) *ℤ c ≡ a *ℤ c -ℤ b *ℤ c
+pub sub-mul : (a b c : ℤ) → (a -ℤ b) *ℤ c ≡ a *ℤ c -ℤ b *ℤ c
 sub-mul a b c = *ℤ-comm (a -ℤ b) c ∙ mul-sub c a b ∙ (λ i. *ℤ-comm c a i -ℤ *ℤ-comm c b i)
 
 -- ---- the same in km/h

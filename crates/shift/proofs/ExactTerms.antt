@@ -26,10 +26,10 @@ factorial-some zero = omega arith
 factorial-some (suc k) = let h = factorial-some k in omega (arith, mul-le-mul-left (suc k) h)
 
 -- the denominator of the k-th term
-abbrev den : ℕ → ℕ → ℕ
+abbrev pub den : ℕ → ℕ → ℕ
 den under k = under ^ k * factorial k
 
-den-some : {under : ℕ} → 0 < under → (k : ℕ) → 0 < den under k
+pub den-some : {under : ℕ} → 0 < under → (k : ℕ) → 0 < den under k
 den-some {under} some k = omega (arith, mul-le-mul (one-le-pow k under some) (factorial-some k))
 
 with-ordered : {sum term : Ends} (k : ℕ) → sum .lower ≤ℤ sum .upper → term .lower ≤ℤ term .upper → withTerm sum term k .lower ≤ℤ withTerm sum term k .upper

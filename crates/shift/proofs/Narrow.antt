@@ -55,7 +55,7 @@ module _ {over under : ℕ} (x : Exponent over under) where
   unfolding sumTo withTerm sumOf
   last-upper = refl
 
-  exponential-narrow : Narrow 47 (exponentialOf over under)
+  pub exponential-narrow : Narrow 47 (exponentialOf over under)
   unfolding exponentialOf
   exponential-narrow =
       let e = sumTo over under 23 in
