@@ -1,0 +1,1 @@
+// No code: what the ends of the shift speeds have to do with the longer sums of the exponential.
