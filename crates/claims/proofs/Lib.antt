@@ -22,3 +22,4 @@ pub mod Gears
 pub mod Widths
 pub mod Before
 pub mod ShiftTenths
+pub mod LongerSums
