@@ -61,7 +61,8 @@ pub const SPEEDS: &str = "\
 usage: NAME speeds VEHICLE [--csv FILE]
 
 Prints the upshift and the downshift speeds of a vehicle sheet in km/h. Each has two ends, rounded outward to 0.001 km/h, and the exact one lies
-between them. The downshift from 2 to 1 is rule set 2's alone.
+between them: that of any sum of the exponential's terms that is at least as long as the core's (docs/EXPONENTIAL.md). The downshift from 2 to 1 is
+rule set 2's alone, and has no exponential in it.
 
 Beside the ends stand the tenths of a km/h by which gears are chosen, worked from the ends before that rounding. From the least tenth above on, a
 second is above the shift speed; for 2 to 1 it is the least tenth at or above. Where the tenth before that is too close to call, it is named: a trace
