@@ -100,10 +100,8 @@ pub fn by_tenths(case: &Case) -> Answer {
     by_way(plain::tenths::write_gears, case)
 }
 
-/// A way to write gears, as the second implementation has two.
-type Way = fn(&[u8], &plain::gear::Vehicle, &mut [u8], usize) -> Result<(), plain::Refusal>;
-
-fn by_way(way: Way, case: &Case) -> Answer {
+/// What the second implementation says in one of its ways to write gears, and the buffer after it.
+pub(crate) fn by_way(way: impl Fn(&[u8], &plain::gear::Vehicle, &mut [u8], usize) -> Result<(), plain::Refusal>, case: &Case) -> Answer {
     let mut buffer = case.buffer.clone();
     let told = way(&case.trace, &plain_vehicle(&case.vehicle), &mut buffer, case.start);
     (plain_told(told), buffer)

@@ -9,6 +9,7 @@ pub mod pairs;
 pub mod random;
 pub mod readings;
 pub mod speeds;
+pub mod sums;
 pub mod tenths;
 
 /// An outcome as four numbers: 0 or the refusal's number, and its place.

@@ -5,7 +5,8 @@ use std::cmp::Ordering;
 use crate::figure::Figure;
 
 /// A fraction that nothing reduces: the numerator, halved so many times, over the denominator. Halvings stand apart, so that a sum has the more of its
-/// terms' and not both: a float has up to 149. The widest is a weighted NOx over three parts, of about 1,100 bits; a product that does not fit stops the run.
+/// terms' and not both: a float has up to 149. A weighted NOx over three parts takes about 1,100 bits, and the widest, a shift speed by the sum of 65 terms,
+/// about 1,420; a product that does not fit stops the run.
 #[derive(Clone, Copy, Debug)]
 pub struct Fraction {
     numerator: Wide,
@@ -64,10 +65,31 @@ impl Fraction {
         self.times(Fraction { numerator: divisor.denominator.doubled(divisor.halvings), denominator: divisor.numerator, halvings: 0 })
     }
 
+    /// How it compares with a whole number.
+    fn cmp(self, n: i128) -> Ordering {
+        self.numerator.cmp(Wide::from(n).times(self.denominator).doubled(self.halvings))
+    }
+
+    /// Whether it is less than a whole number.
+    pub fn is_below(self, n: i128) -> bool {
+        self.cmp(n) == Ordering::Less
+    }
+
+    /// Whether it is more than a whole number.
+    ///
+    /// ```
+    /// use plain::fraction::Fraction;
+    /// let (half, two) = (Fraction::new(-1, 2), Fraction::new(6, 3));
+    /// assert!(half.is_above(-1) && !half.is_below(-1) && half.is_below(0) && !half.is_above(0));
+    /// assert!(!two.is_above(2) && !two.is_below(2));
+    /// ```
+    pub fn is_above(self, n: i128) -> bool {
+        self.cmp(n) == Ordering::Greater
+    }
+
     /// Whether it is at least the one and at most the other.
     pub fn between(self, lower: i128, upper: i128) -> bool {
-        let multiple = |n: i128| Wide::from(n).times(self.denominator).doubled(self.halvings);
-        multiple(lower).cmp(self.numerator) != Ordering::Greater && multiple(upper).cmp(self.numerator) != Ordering::Less
+        !self.is_below(lower) && !self.is_above(upper)
     }
 
     /// Whether it is the one where it is rounded down and the other where it is rounded up: it lies between them, and between no nearer two.
@@ -118,7 +140,7 @@ pub fn decimal(text: &str) -> Fraction {
     Fraction::new(format!("{whole}{places}").parse().unwrap(), 10_i128.pow(places.len() as u32))
 }
 
-const WORDS: usize = 20;
+const WORDS: usize = 24;
 
 /// A whole number: its sign, and its magnitude in words, the lowest first. Zero is not negative.
 #[derive(Clone, Copy, Debug, PartialEq, Eq)]

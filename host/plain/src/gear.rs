@@ -298,7 +298,7 @@ pub fn write_gears(file: &[u8], vehicle: &Vehicle, buffer: &mut [u8], start: usi
 
 /// [`write_gears`], whichever way the gears before corrections are chosen: all else is the same (02, M-106).
 pub(crate) fn write_gears_by(
-    way: fn(&Vehicle) -> Own<'_>,
+    way: impl Fn(&Vehicle) -> Own<'_>,
     file: &[u8],
     vehicle: &Vehicle,
     buffer: &mut [u8],

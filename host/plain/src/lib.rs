@@ -12,6 +12,7 @@ pub mod fraction;
 pub mod gear;
 pub mod lot;
 pub mod preset;
+pub mod sums;
 pub mod tenths;
 pub mod trace;
 
