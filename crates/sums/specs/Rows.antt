@@ -23,7 +23,8 @@ unfoldable pub exactBySet1 : VehicleSheet → Fraction → Bool → ℕ → ℕ
 exactBySet1 v e true speed = passed (exactUpshift v e) speed (v .gears - 1) + 1
 exactBySet1 v e false speed = passed (exactUpshift v e) speed (v .gears - 2) + 2
 
--- rule set 2: acceleration as in set 1; else "gear 1, if v < v2->1; gear 2, if v < v3->2; gear 3, if v3->2 <= v < v4->3; ..", the first that fits
+-- rule set 2: acceleration as in set 1; else "gear 1, if v < v2->1; gear 2, if v < v3->2; gear 3, if v3->2 <= v < v4->3; ..", the first that fits. At equality
+-- with a speed that has an exponential in it 004 has the upper gear and 001 the lower, which is taken here; no row tells, since that second is too close to call
 unfoldable pub exactBySet2 : VehicleSheet → Fraction → Bool → ℕ → ℕ
 exactBySet2 v e true speed = exactBySet1 v e true speed
 exactBySet2 v e false speed = cond (less (exactSpeed speed) (downshift v e 0)) 1 (passed (λ i. downshift v e (suc i)) speed (v .gears - 2) + 2)
