@@ -10,11 +10,11 @@ use Rattle.refusal.specs.Judging.{Check}
 use Rattle.refusal.specs.Ranges.{within}
 use Rattle.refusal.proofs.Judging.{AllHold, judged-holds}
 use Rattle.refusal.proofs.Ranges.{both, range, rangeℤ}
-use Rattle.reading.specs.Gas.{Gas, HC, CO, NOx, CO2, along}
+use Rattle.reading.specs.Gas.{Gas, HC, CO, NOx, CO2, NMHC, along}
 use Rattle.reading.proofs.Gas.{by-gas}
 use Rattle.bag.specs.declared.Part.{Part}
 use Rattle.bag.specs.declared.BagSheet.{BagSheet}
-use Rattle.bag.specs.Sheet.{densityAt, limitAt, partsOf, classHolds, limitCheck, testChecks, densityCheck, valueChecks}
+use Rattle.bag.specs.Sheet.{densityAt, limitAt, partsOf, classHolds, limitCheck, efficiencyChecks, testChecks, densityCheck, valueChecks}
 use Rattle.bag.specs.Sheet.{ofThird, sheetChecks, judgeSheet}
 use Rattle.bag.specs.Sound.{Ranged, Tested, Sound}
 
@@ -29,10 +29,11 @@ apart (c ∷ cs) ds h =
 -- where the lists of all gases hold, each does
 along-holds : (f : Gas → List Check) → AllHold (along f) → (gas : Gas) → AllHold (f gas)
 along-holds f h =
-    let (hc, after-hc) = apart (f HC) (f CO ++ (f NOx ++ f CO2)) h in
-    let (co, after-co) = apart (f CO) (f NOx ++ f CO2) after-hc in
-    let (nox, co2) = apart (f NOx) (f CO2) after-co in
-    by-gas (λ gas. AllHold (f gas)) hc co nox co2
+    let (hc, after-hc) = apart (f HC) (f CO ++ (f NOx ++ (f CO2 ++ f NMHC))) h in
+    let (co, after-co) = apart (f CO) (f NOx ++ (f CO2 ++ f NMHC)) after-hc in
+    let (nox, after-nox) = apart (f NOx) (f CO2 ++ f NMHC) after-co in
+    let (co2, nmhc) = apart (f CO2) (f NMHC) after-nox in
+    by-gas (λ gas. AllHold (f gas)) hc co nox co2 nmhc
 
 ranged : (part : ℕ) (p : Part) → AllHold (valueChecks part p) → Ranged p
 unfolding valueChecks
@@ -52,11 +53,12 @@ ranged part p h =
       density = λ gas. range _ _ (densityAt gas (p .density)) (densities gas .0);
     }
 
-tested : (s : BagSheet) → classHolds (s .class) (s .parts) ≡ true → AllHold (testChecks (s .triple) (s .fuel) (s .limits)) → Tested s
+tested : (s : BagSheet) → classHolds (s .class) (s .parts) ≡ true → AllHold (testChecks (s .triple) (s .fuel) (s .limits) (s .efficiencies)) → Tested s
 unfolding testChecks
 tested s e h =
     let (class, parts) = both (within 1 3 (s .class)) (eqb (s .parts) (partsOf (s .class))) e in
-    let (d, (wc, (wh, (k, (hc, (co, (co2, (density, limit)))))))) = h in
+    let (d, (wc, (wh, (k, (hc, (co, (co2, (density, after)))))))) = h in
+    let (limit, (methane, (ethane, end))) = apart (along (limitCheck (s .limits))) (efficiencyChecks (s .efficiencies)) after in
     let limits = along-holds (limitCheck (s .limits)) limit in
     let t = s .triple in
     let f = s .fuel in
@@ -73,6 +75,7 @@ tested s e h =
             density = range _ _ (f .density) density;
           };
       limits = λ gas. leb-true (limitAt gas (s .limits)) _ (limits gas .0);
+      efficiencies = record { methane = range _ _ (s .efficiencies .methane) methane; ethane = range _ _ (s .efficiencies .ethane) ethane };
     }
 
 -- class 3 has the checks of the third part
@@ -86,7 +89,7 @@ accepted-sound s e =
     let values-2 = valueChecks 2 (s .second) ++ values-3 in
     let values-1 = valueChecks 1 (s .first) ++ values-2 in
     let (class, values) = judged-holds (sheetChecks s) e in
-    let (test, parts) = apart (testChecks (s .triple) (s .fuel) (s .limits)) values-1 values in
+    let (test, parts) = apart (testChecks (s .triple) (s .fuel) (s .limits) (s .efficiencies)) values-1 values in
     let (first, later) = apart (valueChecks 1 (s .first)) values-2 parts in
     let (second, third) = apart (valueChecks 2 (s .second)) values-3 later in
     record {

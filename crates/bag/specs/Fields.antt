@@ -82,3 +82,7 @@ fuelDensityRange = 600 to 1000
 -- 12 limits, "0 to 10^12 micrograms/km"
 abbrev pub mostLimit : ℕ
 mostLimit = 1000000000000
+
+-- 13 efficiencies of the cutter (02, M-108), "0 to 1,000 thousandths"
+abbrev pub efficiencyRange : Range
+efficiencyRange = 0 to 1000

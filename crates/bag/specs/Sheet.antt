@@ -13,16 +13,17 @@ use Rattle.bag.specs.declared.Triple.{Triple}
 use Rattle.bag.specs.declared.Fuel.{Fuel}
 use Rattle.bag.specs.declared.Densities.{Densities}
 use Rattle.bag.specs.declared.Limits.{Limits}
+use Rattle.bag.specs.declared.Efficiencies.{Efficiencies}
 use Rattle.bag.specs.declared.Part.{Part}
 use Rattle.bag.specs.declared.BagSheet.{BagSheet}
 use Rattle.bag.specs.Fields.{isWithin, pumpRange, revolutionsRange, mostPumped, barometerRange, depressionRange, coldest, hottest, humidityRange}
-use Rattle.bag.specs.Fields.{saturationRange, distanceRange, densityRange, dRange, wRange, kRange, factorRange, fuelDensityRange, mostLimit}
+use Rattle.bag.specs.Fields.{saturationRange, distanceRange, densityRange, dRange, wRange, kRange, factorRange, fuelDensityRange, mostLimit, efficiencyRange}
 
 abbrev pub densityAt : Gas → Densities → ℕ
-densityAt gas d = among gas (d .hc) (d .co) (d .nox) (d .co2)
+densityAt gas d = among gas (d .hc) (d .co) (d .nox) (d .co2) (d .nmhc)
 
 abbrev pub limitAt : Gas → Limits → ℕ
-limitAt gas l = among gas (l .hc) (l .co) (l .nox) (l .co2)
+limitAt gas l = among gas (l .hc) (l .co) (l .nox) (l .co2) (l .nmhc)
 
 -- "class 1, parts 50 and 50 percent; class 2, 30 and 70; class 3, 25, 50 and 25"
 abbrev pub partsOf : ℕ → ℕ
@@ -39,12 +40,15 @@ classCheck class parts = record { holds = classHolds class parts; refusal = Part
 abbrev pub value : ℕ → ℕ → Bool → Check
 value part field holds = record { holds = holds; refusal = Value part field }
 
--- "10 to 12 per test"
+-- "10 to 12 per test"; "Efficiencies, 0 to 1,000 thousandths, are test field 13; its density and limit join fields 9 and 12" (02, M-108), present or not
 abbrev pub limitCheck : Limits → Gas → List Check
 limitCheck limits gas = value 0 12 (leb (limitAt gas limits) mostLimit) ∷ []
 
-unfoldable pub testChecks : Triple → Fuel → Limits → List Check
-testChecks triple fuel limits =
+abbrev pub efficiencyChecks : Efficiencies → List Check
+efficiencyChecks e = value 0 13 (isWithin efficiencyRange (e .methane)) ∷ value 0 13 (isWithin efficiencyRange (e .ethane)) ∷ []
+
+unfoldable pub testChecks : Triple → Fuel → Limits → Efficiencies → List Check
+testChecks triple fuel limits efficiencies =
     value 0 10 (isWithin dRange (triple .d))
     ∷ value 0 10 (isWithin wRange (triple .wc))
     ∷ value 0 10 (isWithin wRange (triple .wh))
@@ -53,7 +57,7 @@ testChecks triple fuel limits =
     ∷ value 0 11 (isWithin factorRange (fuel .co))
     ∷ value 0 11 (isWithin factorRange (fuel .co2))
     ∷ value 0 11 (isWithin fuelDensityRange (fuel .density))
-    ∷ along (limitCheck limits)
+    ∷ (along (limitCheck limits) ++ efficiencyChecks efficiencies)
 
 -- "with field 1 at most 10^9 ml", which is field 2
 abbrev pub pumped : ℕ → ℕ → Bool
@@ -84,7 +88,7 @@ ofThird class checks = cond (eqb class 3) checks []
 unfoldable pub sheetChecks : BagSheet → List Check
 sheetChecks s =
     classCheck (s .class) (s .parts)
-    ∷ (testChecks (s .triple) (s .fuel) (s .limits)
+    ∷ (testChecks (s .triple) (s .fuel) (s .limits) (s .efficiencies)
     ++ (valueChecks 1 (s .first)
     ++ (valueChecks 2 (s .second)
     ++ ofThird (s .class) (valueChecks 3 (s .third)))))

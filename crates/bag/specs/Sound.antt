@@ -7,9 +7,10 @@ use Rattle.bag.specs.declared.Part.{Part}
 use Rattle.bag.specs.declared.Triple.{Triple}
 use Rattle.bag.specs.declared.Fuel.{Fuel}
 use Rattle.bag.specs.declared.Limits.{Limits}
+use Rattle.bag.specs.declared.Efficiencies.{Efficiencies}
 use Rattle.bag.specs.declared.BagSheet.{BagSheet}
 use Rattle.bag.specs.Fields.{Within, pumpRange, revolutionsRange, mostPumped, barometerRange, depressionRange, coldest, hottest, humidityRange}
-use Rattle.bag.specs.Fields.{saturationRange, distanceRange, densityRange, dRange, wRange, kRange, factorRange, fuelDensityRange, mostLimit}
+use Rattle.bag.specs.Fields.{saturationRange, distanceRange, densityRange, dRange, wRange, kRange, factorRange, fuelDensityRange, mostLimit, efficiencyRange}
 use Rattle.bag.specs.Sheet.{partsOf, densityAt, limitAt}
 
 -- fields 1 to 9 of a part
@@ -25,7 +26,7 @@ pub record Ranged (p : Part) : Type 0 where
   pub distance : Within distanceRange (p .distance)
   pub density : (gas : Gas) → Within densityRange (densityAt gas (p .density))
 
--- field 10, field 11 and field 12
+-- fields 10 to 13
 pub record RangedTriple (t : Triple) : Type 0 where
   pub d : Within dRange (t .d)
   pub wc : Within wRange (t .wc)
@@ -41,6 +42,10 @@ pub record RangedFuel (f : Fuel) : Type 0 where
 abbrev pub RangedLimits : Limits → Type 0
 RangedLimits l = (gas : Gas) → limitAt gas l ≤ mostLimit
 
+pub record RangedEfficiencies (e : Efficiencies) : Type 0 where
+  pub methane : Within efficiencyRange (e .methane)
+  pub ethane : Within efficiencyRange (e .ethane)
+
 -- the class, and the test's fields
 pub record Tested (s : BagSheet) : Type 0 where
   pub class : (1 ≤ s .class) × (s .class ≤ 3)
@@ -48,6 +53,7 @@ pub record Tested (s : BagSheet) : Type 0 where
   pub triple : RangedTriple (s .triple)
   pub fuel : RangedFuel (s .fuel)
   pub limits : RangedLimits (s .limits)
+  pub efficiencies : RangedEfficiencies (s .efficiencies)
 
 pub record Sound (s : BagSheet) : Type 0 where
   pub tested : Tested s

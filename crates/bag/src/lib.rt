@@ -18,6 +18,7 @@ pub struct Densities {
     pub co: u32,
     pub nox: u32,
     pub co2: u32,
+    pub nmhc: u32,
 }
 
 // Fields 1 to 9 of a part, in the units of 01's table, and its messages as received.
@@ -60,6 +61,14 @@ pub struct Limits {
     pub co: u64,
     pub nox: u64,
     pub co2: u64,
+    pub nmhc: u64,
+}
+
+// Field 13: how much of methane and of ethane the cutter takes away, in thousandths.
+#[repr(C)]
+pub struct Efficiencies {
+    pub methane: u32,
+    pub ethane: u32,
 }
 
 // `parts` is the number of parts given. The third is read for class 3 alone.
@@ -69,6 +78,7 @@ pub struct BagSheet {
     pub triple: Triple,
     pub fuel: Fuel,
     pub limits: Limits,
+    pub efficiencies: Efficiencies,
     pub first: Part,
     pub second: Part,
     pub third: Part,
@@ -136,11 +146,20 @@ fn pumped(part: u32, pump: u32, revolutions: u32, rest: Judged) -> Judged
     refusal::check(ml <= 1000000000, Refusal::Value { part, field: 2 }, rest)
 }
 
-// Fields 10 to 12, as part 0.
-fn test_values(triple: Triple, fuel: Fuel, limits: Limits, rest: Judged) -> Judged
-    ensures { λ r. ⌜ r ≡ checkedAll (testChecks triple fuel limits) rest ⌝ }
+// Fields 10 to 13, as part 0.
+fn test_values(
+    triple: Triple,
+    fuel: Fuel,
+    limits: Limits,
+    efficiencies: Efficiencies,
+    rest: Judged,
+) -> Judged
+    ensures { λ r. ⌜ r ≡ checkedAll (testChecks triple fuel limits efficiencies) rest ⌝ }
 {
-    let co2_limit = limit(limits.co2, rest);
+    let ethane = value(0, 13, 0, 1000, efficiencies.ethane, rest);
+    let methane = value(0, 13, 0, 1000, efficiencies.methane, ethane);
+    let nmhc_limit = limit(limits.nmhc, methane);
+    let co2_limit = limit(limits.co2, nmhc_limit);
     let nox_limit = limit(limits.nox, co2_limit);
     let co_limit = limit(limits.co, nox_limit);
     let hc_limit = limit(limits.hc, co_limit);
@@ -158,7 +177,8 @@ fn test_values(triple: Triple, fuel: Fuel, limits: Limits, rest: Judged) -> Judg
 fn part_values(part: u32, p: Part, rest: Judged) -> Judged
     ensures { λ r. ⌜ r ≡ checkedAll (valueChecks part p) rest ⌝ }
 {
-    let co2 = density(part, p.density.co2, rest);
+    let nmhc = density(part, p.density.nmhc, rest);
+    let co2 = density(part, p.density.co2, nmhc);
     let nox = density(part, p.density.nox, co2);
     let co = density(part, p.density.co, nox);
     let hc = density(part, p.density.hc, co);
@@ -191,7 +211,13 @@ pub fn judge(sheet: BagSheet) -> Judged
     let values_3 = third_values(sheet.class, sheet.third, Judged::Accepted);
     let values_2 = part_values(2, sheet.second, values_3);
     let values_1 = part_values(1, sheet.first, values_2);
-    let values_0 = test_values(sheet.triple, sheet.fuel, sheet.limits, values_1);
+    let values_0 = test_values(
+        sheet.triple,
+        sheet.fuel,
+        sheet.limits,
+        sheet.efficiencies,
+        values_1,
+    );
     refusal::check(
         class_holds(sheet.class, sheet.parts),
         Refusal::Parts,

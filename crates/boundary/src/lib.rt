@@ -36,7 +36,7 @@ ghost use Rattle.lot_crossing.specs.Lot.{lotOut};
 pub extern "C" fn ylhovesko_version() -> u32
     ensures { λ r. ⌜ r ≡ version ⌝ }
 {
-    8
+    9
 }
 
 // The gear sheet: refusals 1 to 9, or the row in the buffer from the start on.
@@ -88,7 +88,7 @@ pub extern "C" fn ylhovesko_shift_tenths(vehicle: VehicleSheet) -> TenthsOutcome
     speeds_crossing::tenths_out(vehicle)
 }
 
-// The emission sheet: refusals 10 to 14, or the result of a test.
+// The emission sheet: refusals 10 to 14 and 19, or the result of a test.
 #[no_mangle]
 pub extern "C" fn ylhovesko_result(sheet: Sheet) -> TestOutcome
     ensures { λ r. ⌜ r ≡ resultOut (testAnswer (sheetOf sheet)) ⌝ }

@@ -20,13 +20,14 @@ use Rattle.reading.specs.declared.Message.{Message}
 use Rattle.reading.specs.declared.Message.the-variants.{Ppm, Percent, OverRange, NotFitted}
 use Rattle.reading.specs.declared.Worth.the-variants.{Units, Unusable}
 use Rattle.reading.specs.Units.{Exact, value, none, exactValue, times, exactUnits, outward, mostUnits, upToLimit, rounded, unitsOf}
-use Rattle.reading.specs.Gas.{Gas, HC, CO, NOx, CO2}
+use Rattle.reading.specs.Gas.{Gas, HC, CO, NOx, CO2, NMHC, gasNumber, isNMHC, messageAt}
 use Rattle.bag.specs.declared.Part.{Part}
 use Rattle.bag.specs.declared.BagSheet.{BagSheet}
-use Rattle.part.specs.declared.PartRead.the-variants as partRead
-use Rattle.part.specs.Read.{gasOf, readPart}
-use Rattle.emission.specs.Test.{nothing, readThird, readIn, testAnswer}
-use Rattle.claims.specs.Before.{nearest, roundedBefore, unitsBefore, gasBefore, partBefore, thirdBefore, readBefore, answerBefore}
+use Rattle.sides.specs.declared.PartRead.the-variants as partRead
+use Rattle.sides.specs.Gases.{nothing}
+use Rattle.sides.specs.ReadIn.{readGas, worthOf, gasOf, readPart, readThird, readIn}
+use Rattle.emission.specs.Test.{testAnswer}
+use Rattle.claims.specs.Before.{nearest, roundedBefore, unitsBefore, worthBefore, gasBefore, partBefore, thirdBefore, readBefore, answerBefore}
 use Rattle.claims.specs.Before.{WholeUnits, WholePart, WholeTest, HoldsEnds}
 use Rattle.claims.proofs.Readings.{no-value}
 
@@ -129,12 +130,19 @@ unfolding unitsOf unitsBefore
 before-held message h i = held (exactUnits message) (λ q e. den-positive message e) h i
 
 -- ---- a whole test
+worth-as-before : (gas : Gas) (message : Message) → (isNMHC gas ≡ false → WholeUnits message) → worthOf gas message ≡ worthBefore gas message
+worth-as-before gas message w = go (isNMHC gas) refl w
+  where
+    go : (fifth : Bool) → isNMHC gas ≡ fifth → (fifth ≡ false → WholeUnits message) → worthOf gas message ≡ worthBefore gas message
+    go true e w = rw e
+    go false e w = rw e (whole-as-before message (w refl))
+
 gas-as-before : (part : ℕ) (p : Part) → WholePart p → (gas : Gas) → gasOf part p gas ≡ gasBefore part p gas
-gas-as-before part p w gas = rw (whole-as-before _ (w .bag gas), whole-as-before _ (w .air gas))
+gas-as-before part p w gas = λ i. readGas part (gasNumber gas) (worth-as-before gas (messageAt gas (p .bag)) (w .bag gas) i) (worth-as-before gas (messageAt gas (p .air)) (w .air gas) i)
 
 part-as-before : (part : ℕ) (p : Part) → WholePart p → readPart part p ≡ partBefore part p
 unfolding readPart partBefore
-part-as-before part p w = let same = gas-as-before part p w in rw (same HC, same CO, same NOx, same CO2)
+part-as-before part p w = let same = gas-as-before part p w in rw (same HC, same CO, same NOx, same CO2, same NMHC)
 
 third-as-before : (class : ℕ) (third : Part) → (class ≡ 3 → WholePart third) → readThird class third ≡ thirdBefore class third
 unfolding readThird thirdBefore

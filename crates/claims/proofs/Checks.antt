@@ -25,17 +25,20 @@ use Rattle.gear.specs.Sheet.{gearAnswer}
 use Rattle.bag.specs.declared.BagSheet.{BagSheet}
 use Rattle.bag.specs.Sheet.{sheetChecks, ofThird, judgeSheet}
 use Rattle.bag.specs.declared.Part.{Part}
-use Rattle.part.specs.declared.Sides.{Sides}
-use Rattle.part.specs.declared.PartRead.{PartRead}
-use Rattle.part.specs.declared.PartRead.the-variants as partRead
-use Rattle.part.specs.Read.{readPart, judgedPart, readingChecks}
-use Rattle.part.proofs.Read.{part-judged}
-use Rattle.emission.specs.declared.Read.{Read}
-use Rattle.emission.specs.declared.Read.the-variants as read
+use Rattle.cutter.specs.NonMethane.{cutterOf}
+use Rattle.sides.specs.declared.Sides.{Sides}
+use Rattle.sides.specs.declared.PartRead.{PartRead}
+use Rattle.sides.specs.declared.PartRead.the-variants as partRead
+use Rattle.sides.specs.declared.Read.{Read}
+use Rattle.sides.specs.declared.Read.the-variants as read
+use Rattle.sides.specs.Gases.{nothing}
+use Rattle.sides.specs.ReadIn.{readPart, judgedPart, readingChecks, readThird, onPart, readIn, messageChecks}
+use Rattle.sides.proofs.Readings.{part-judged}
+use Rattle.late.specs.Late.{lateChecks, judgeLate}
 use Rattle.emission.specs.declared.Answer.{Answer}
 use Rattle.emission.specs.declared.Answer.the-variants.{Result}
 use Rattle.emission.specs.declared.Answer.the-variants as answer
-use Rattle.emission.specs.Test.{nothing, readThird, onPart, readIn, messageChecks, onRead, lateChecks, judgeLate, handUp, readAnswer, testAnswer}
+use Rattle.emission.specs.Test.{onRead, handUp, readAnswer, testAnswer}
 
 -- ---- stages and searches as lists of checks
 abbrev pub check : Bool → Refusal → Check
@@ -135,7 +138,7 @@ gear-judged trace v room start =
     (λ i. andThen (andThen (trace-judged trace i) (andThen (vehicle-judged v i) (judgedBy space))) (close i))
     ∙ flat (traceChecks trace) (vehicleChecks v) space _
 
--- ---- the emission sheet, 10 to 14
+-- ---- the emission sheet, 10 to 14 and 19
 abbrev judgedRead : Read → Judged
 judgedRead (read.Units readings) = Accepted
 judgedRead (read.Refused refusal) = Refused refusal
@@ -173,14 +176,14 @@ hand-judged : (j : Judged) (next : Answer) → judgedAnswer (handUp j next) ≡ 
 hand-judged Accepted next = refl
 hand-judged (Refused refusal) next = refl
 
--- 13 and 14 are judged of what was read
+-- 13, 14 and 19 are judged of what was read
 abbrev pub lateOn : BagSheet → Read → List Check
-lateOn s (read.Units readings) = lateChecks s readings
+lateOn s (read.Units readings) = lateChecks s (cutterOf s) readings
 lateOn s (read.Refused refusal) = []
 
 late-judged : (s : BagSheet) (x : Read) → judgedAnswer (onRead x (readAnswer s)) ≡ andThen (judgedRead x) (judgedBy (lateOn s x))
 unfolding readAnswer
-late-judged s (read.Units readings) = hand-judged (judgeLate s readings) _ ∙ then-nothing (judgeLate s readings)
+late-judged s (read.Units readings) = hand-judged (judgeLate s (cutterOf s) readings) _ ∙ then-nothing (judgeLate s (cutterOf s) readings)
 late-judged s (read.Refused refusal) = refl
 
 abbrev pub emissionChecks : BagSheet → List Check

@@ -7,6 +7,7 @@ pub mod Readings
 pub mod Gases
 pub mod Stages
 pub mod Contained
+pub mod Absent
 pub mod Verdicts
 pub mod Figures
 pub mod Crossing

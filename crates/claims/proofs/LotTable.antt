@@ -10,8 +10,8 @@ use lib.ListN.{length}
 use lib.IntN.{ℤ, pos}
 use lib.Signed.{leZ, ltZ, clashℤ}
 use Rattle.arith.proofs.Machine.{lt-true, lt-false, le-true}
-use Rattle.reading.specs.Gas.{Gas, HC, CO, NOx, CO2}
-use Rattle.part.specs.Part.{endsAt}
+use Rattle.reading.specs.Gas.{Gas, HC, CO, NOx, CO2, NMHC}
+use Rattle.sides.specs.Gases.{endsAt}
 use Rattle.record.specs.declared.Record.{Record}
 use Rattle.tally.specs.Entries.{mostEnd, leastEnd, beyond, faultyEnds}
 use Rattle.lot.specs.declared.LotSheet.{LotSheet}
@@ -19,7 +19,7 @@ use Rattle.lot.specs.declared.LotAnswer.the-variants.{Refused}
 use Rattle.refusal.specs.declared.Refusal.the-variants.{LotSize}
 use Rattle.lot.specs.Lot.{sheetOf, faulty, firstFault, onFault, lotAnswer}
 use Rattle.lot_crossing.specs.Lot.{sheetOut, refusedOut, lotOut}
-use Rattle.claims.specs.Table.{Line, outcome, firstOf, Exactly, rising, taken, recordLines, lotTable}
+use Rattle.claims.specs.Table.{outcome, firstOf, Exactly, rising, taken, without, recordLines, lotTable}
 use Rattle.claims.proofs.Table.{decides, rising-numbered, further}
 use Rattle.claims.proofs.Verdicts.{above}
 
@@ -36,6 +36,10 @@ at-most a b = go (leZ a b) (ltZ b a) refl refl
 neither : (s t : Bool) → not (s || t) ≡ (not s && not t)
 neither true t = refl
 neither false t = refl
+
+unread : (s t : Bool) → not (not s && t) ≡ (s || not t)
+unread true t = refl
+unread false t = refl
 
 module _ (r : Record) where
   taken-is : (gas : Gas) → taken gas r ≡ not (faultyEnds (endsAt gas (r .weighted)))
@@ -55,18 +59,22 @@ module _ (r : Record) where
         neither (ltZ u leastEnd) (ltZ (pos mostEnd) u),
       )
 
-  line-is : (taken HC r && (taken CO r && (taken NOx r && taken CO2 r))) ≡ not (faulty r)
+  line-is : (taken HC r && (taken CO r && (taken NOx r && (taken CO2 r && (without r || taken NMHC r))))) ≡ not (faulty r)
   unfolding faulty
   line-is =
       let at : Gas → Bool = λ gas. faultyEnds (endsAt gas (r .weighted)) in
+      let nmhc : Bool = not (without r) && at NMHC in
       rw (
         taken-is HC,
         taken-is CO,
         taken-is NOx,
         taken-is CO2,
-        neither (at HC) (at CO || (at NOx || at CO2)),
-        neither (at CO) (at NOx || at CO2),
-        neither (at NOx) (at CO2),
+        taken-is NMHC,
+        neither (at HC) (at CO || (at NOx || (at CO2 || nmhc))),
+        neither (at CO) (at NOx || (at CO2 || nmhc)),
+        neither (at NOx) (at CO2 || nmhc),
+        neither (at CO2) nmhc,
+        unread (without r) (at NMHC),
       )
 
 -- ---- the lines in their order

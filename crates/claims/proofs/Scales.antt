@@ -1,7 +1,8 @@
 -- Ends that count a value in parts of its unit: what the operations of the ends make of them. Assumes nothing.
-use mathlib.Core.Path.{_≡_, sym, subst}
+use mathlib.Core.Path.{_≡_, sym, ap, subst, _∙_}
 use Prim.Native.Nat.{ℕ, _*_, _<_}
 use lib.IntN.{ℤ, pos, _*ℤ_}
+use lib.Signed.{_<ℤ_}
 use Rattle.arith.specs.declared.Ends.{Ends}
 use Rattle.arith.specs.Stages.{exactly, sumOf, differenceOf, scaledBy, productOf, dividedBy}
 use Rattle.arith.specs.Fraction.{Fraction, _+ᶠ_, _-ᶠ_, _*ᶠ_, _/ᶠ_, Between}
@@ -26,6 +27,13 @@ in-ones {x = x} h = counted 1 x (sym (one-mul (x .num))) h
 
 pub of-ones : {e : Ends} {x : Fraction} → In 1 e x → Between e x
 of-ones {e} {x} h = subst (λ (n : ℤ). Between e (record { num = n; den = x .den })) (one-mul (x .num)) (h .holds)
+
+-- another fraction of the same value
+scaled-same : (k a b c d : ℤ) → a *ℤ c ≡ d *ℤ b → a *ℤ (k *ℤ c) ≡ d *ℤ (k *ℤ b)
+scaled-same k a b c d e = mul-left-comm a k c ∙ (ap (λ (z : ℤ). k *ℤ z) e ∙ sym (mul-left-comm d k b))
+
+pub same-in : {k : ℕ} {e : Ends} {x : Fraction} → In k e x → (y : Fraction) → pos 0 <ℤ y .den → y .den *ℤ x .num ≡ x .den *ℤ y .num → In k e y
+same-in {k} {x = x} h y p e = record { holds = same-value (h .holds) (parts k y) p (scaled-same (pos k) (y .den) (y .num) (x .num) (x .den) e) }
 
 -- ---- the operations
 exchange : (a b c d : ℤ) → (a *ℤ b) *ℤ (c *ℤ d) ≡ (a *ℤ c) *ℤ (b *ℤ d)

@@ -5,7 +5,7 @@ use native.Mathlib.Omega.{arith}
 use lib.IntN.{ℤ, pos, negsuc, _+ℤ_, _-ℤ_, _*ℤ_}
 use lib.Signed.{_≤ℤ_}
 use Rattle.arith.specs.declared.Ends.{Ends}
-use Rattle.arith.specs.Stages.{exactly, dividedBy}
+use Rattle.arith.specs.Stages.{exactly, differenceOf, scaledBy, dividedBy}
 use Rattle.arith.specs.Fraction.{Fraction, decimal, whole, _+ᶠ_, _-ᶠ_, _*ᶠ_, _/ᶠ_, Between}
 use Rattle.arith.proofs.Parts.{up, zs, add-parts, sub-parts, mul-parts}
 use Rattle.arith.proofs.Ring.{one-mul, mul-one, mul-pos, products}
@@ -17,9 +17,11 @@ use Rattle.weigh.specs.Test.{weightsOf, weightedOf, fuelOf}
 use Rattle.stage.specs.Ranges.{VolumeRanges, KhRanges}
 use Rattle.stage.proofs.Steps.{kelvin-least, vapour-most, divisor-least}
 use Rattle.bag.specs.declared.Part.{Part}
+use Rattle.bag.specs.declared.Efficiencies.{Efficiencies}
+use Rattle.cutter.specs.NonMethane.{nonMethaneOf}
 use Rattle.part.specs.Part.{volumeIn}
-use Rattle.claims.specs.Exact.{count, exactVolume, exactH, exactKh, percentOf}
-use Rattle.claims.proofs.Scales.{In, in-ones, of-ones, exactly-in, scaled-in, raised-in, finer-in, sum-in, difference-in, product-in, divided-in}
+use Rattle.claims.specs.Exact.{count, exactVolume, exactNonMethane, exactH, exactKh, percentOf}
+use Rattle.claims.proofs.Scales.{In, same-in, in-ones, of-ones, exactly-in, scaled-in, raised-in, finer-in, sum-in, difference-in, product-in, divided-in}
 
 -- ---- fractions of naturals
 abbrev ratio : ℕ → ℕ → Fraction
@@ -67,6 +69,38 @@ pub g-holds : {co2 co hc : Ends} {x y z : Fraction} (wc wh : ℕ) → In 256 co2
     In 256 (gOf co2 co hc wc wh) (count 10 *ᶠ x +ᶠ count wc *ᶠ y +ᶠ count wh *ᶠ z)
 unfolding gOf combinationOf
 g-holds wc wh x y z = sum-in (sum-in (scaled-in 10 x) (scaled-in wc y)) (scaled-in wh z)
+
+-- ---- hydrocarbons without methane: n the net reading in thousandths, k the thousand, d what the efficiencies are apart
+net-same : (a k xn xd yn yd : ℤ) → yd *ℤ (xn *ℤ a) -ℤ (xd *ℤ k) *ℤ yn ≡ (pos 1 *ℤ yd) *ℤ (a *ℤ xn) -ℤ (pos 1 *ℤ xd) *ℤ (k *ℤ yn)
+net-same a k xn xd yn yd =
+    let first : yd *ℤ (xn *ℤ a) ≡ (pos 1 *ℤ yd) *ℤ (a *ℤ xn) = simp (one-mul, products) in
+    let second : (xd *ℤ k) *ℤ yn ≡ (pos 1 *ℤ xd) *ℤ (k *ℤ yn) = simp (one-mul, products) in
+    λ i. first i -ℤ second i
+
+apart-same : (n k d xd yd : ℤ) → ((yd *ℤ (xd *ℤ k)) *ℤ (k *ℤ d)) *ℤ (n *ℤ pos 1) ≡ (((pos 1 *ℤ yd) *ℤ (pos 1 *ℤ xd)) *ℤ d) *ℤ (n *ℤ (k *ℤ k))
+apart-same n k d xd yd = simp (one-mul, mul-one, products)
+
+-- a is 1,000 less the methane efficiency, d the ethane efficiency less it; u and v are the same as fractions of 1
+non-methane-at :
+    {hc behind : Ends} {x y : Fraction} (a d : ℕ) (u v : Fraction) → 0 < d → u ≡ decimal (pos a) 1000 → v ≡ decimal (pos (1000 * d)) 1000000 →
+    In 256 hc x → In 256 behind y →
+    In 256 (dividedBy (differenceOf (scaledBy (pos a) hc) (scaledBy (pos 1000) behind)) (pos d)) ((x *ᶠ u -ᶠ y) /ᶠ v)
+non-methane-at {x = x} {y = y} a d u v h e f hc behind =
+    let net = difference-in (scaled-in a hc) (scaled-in 1000 behind) in
+    let one : 1 * d ≡ d = omega arith in
+    rw (e, f)
+    (same-in (rw one at (divided-in 1 256 d (omega arith) h net)) _
+    (mul-pos (mul-pos (behind .holds .positive) (mul-pos (hc .holds .positive) (omega zs))) (omega zs))
+    (rw (net-same (pos a) (pos 1000) (x .num) (x .den) (y .num) (y .den)) (apart-same ((count a *ᶠ x -ᶠ count 1000 *ᶠ y) .num) (pos 1000) (pos d) (x .den) (y .den))))
+
+pub non-methane-holds : {hc behind : Ends} {x y : Fraction} (e : Efficiencies) → e .methane ≤ 1000 → e .methane < e .ethane → In 256 hc x → In 256 behind y →
+    In 256 (nonMethaneOf e hc behind) (exactNonMethane e x y)
+unfolding nonMethaneOf exactNonMethane
+non-methane-holds e m d hc behind =
+    let left : pos 1000 -ℤ pos (1 * e .methane) ≡ pos (1000 - e .methane) = omega (zs, sub-parts (pos 1000) (pos (1 * e .methane))) in
+    let apart : pos (1000 * e .ethane) -ℤ pos (1000 * e .methane) ≡ pos (1000 * (e .ethane - e .methane)) =
+    omega (zs, sub-parts (pos (1000 * e .ethane)) (pos (1000 * e .methane))) in
+    non-methane-at (1000 - e .methane) (e .ethane - e .methane) _ _ (omega arith) (ap (λ (z : ℤ). decimal z 1000) left) (ap (λ (z : ℤ). decimal z 1000000) apart) hc behind
 
 pub concentration-holds : {bag air g : Ends} {x y z : Fraction} (q : ℕ) → 0 < q → In 256 bag x → In 256 air y → In 256 g z →
     In 4096 (concentrationOf bag air g (256 * q)) ((count q *ᶠ x -ᶠ y *ᶠ (count q -ᶠ z)) /ᶠ count q)

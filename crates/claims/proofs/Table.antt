@@ -1,37 +1,45 @@
 -- No core that refuses everything, or nothing: what is given is the first line of 01's table that fails, and accepted where none fails. The core's checks,
 -- in the order in which it makes them, are the table's lines, and along the table no number falls. Assumes nothing.
-use mathlib.Core.Path.{_≡_, refl, sym, ap, subst, _∙_}
+use mathlib.Core.Path.{_≡_, refl, ap, subst, _∙_}
 use mathlib.Core.Logic.{inl, inr}
-use mathlib.Core.Bool.{Bool, true, false, cond, _&&_, _||_, or-true, false≢true}
+use mathlib.Core.Bool.{Bool, true, false, not, cond, _&&_, _||_, or-true, false≢true}
 use mathlib.Core.List.{List, [], _∷_, _++_, append-assoc, append-nil}
 use Prim.Native.Nat.{ℕ, zero, suc, _+_, _-_, _*_, _≤_, _<_}
 use native.Mathlib.Omega.{arith}
 use lib.Dec.{eqb, leb, ltb}
-use borrow.Author.Tests.{lt-ltb, ltb-true, eqb-true, eq-eqb}
+use lib.IntN.{pos}
+use borrow.Author.Tests.{lt-ltb, ltb-true, ltb-false, le-leb, lt-leb, eqb-true, eq-eqb}
+use Rattle.arith.specs.Stages.{exactly}
 use Rattle.refusal.specs.declared.Refusal.{Refusal}
-use Rattle.refusal.specs.declared.Judged.{Judged}
-use Rattle.refusal.specs.declared.Judged.the-variants.{Accepted, Refused}
+use Rattle.refusal.specs.declared.Judged.the-variants.{Refused}
 use Rattle.refusal.specs.Ranges.{within}
 use Rattle.refusal.specs.Judging.{checked, Check, judgedBy}
-use Rattle.refusal.proofs.Ranges.{range}
+use Rattle.refusal.proofs.Ranges.{range, both as apart}
 use Rattle.vehicle.specs.declared.VehicleSheet.{VehicleSheet}
 use Rattle.house.specs.House.{countOf}
 use Rattle.trace.specs.Judging.{judgePair}
 use Rattle.gear.specs.Sheet.{gearAnswer}
 use Rattle.stage.specs.Part.{humidityGood}
+use Rattle.reading.specs.declared.Message.{Message}
+use Rattle.reading.specs.declared.Worth.the-variants.{Units}
+use Rattle.reading.specs.Units.{unitsOf, isFitted, cutterUnits}
+use Rattle.reading.specs.Gas.{NMHC}
+use Rattle.bag.specs.declared.Part.{Part}
 use Rattle.bag.specs.declared.BagSheet.{BagSheet}
 use Rattle.bag.specs.Sheet.{testChecks, valueChecks, sheetChecks}
-use Rattle.part.specs.Read.{readingChecks}
-use Rattle.emission.specs.declared.Read.{Read}
-use Rattle.emission.specs.declared.Read.the-variants as read
+use Rattle.cutter.specs.NonMethane.{cutterOf, cutterGood}
+use Rattle.sides.specs.declared.Read.{Read}
+use Rattle.sides.specs.declared.Read.the-variants as read
+use Rattle.sides.specs.ReadIn.{isUsable, readingChecks, readIn, messageChecks}
+use Rattle.late.specs.Late.{lateChecks}
 use Rattle.emission.specs.declared.Answer.{Answer}
 use Rattle.emission.specs.declared.Answer.the-variants as answer
-use Rattle.emission.specs.Test.{readIn, messageChecks, lateChecks, testAnswer}
+use Rattle.emission.specs.Test.{testAnswer}
 use Rattle.outcome.specs.declared.Outcome.{Outcome}
 use Rattle.outcome.specs.Outcome.{outcomeOf}
 use Rattle.crossing.specs.Sheet.{withNothing, resultOut}
 use Rattle.claims.specs.Table.{Line, outcome, plain, placed, lines, accepted, firstOf, AllHold, FirstFails, Exactly, notAfter, rising}
-use Rattle.claims.specs.Table.{ratioLine, fallLine, geared, closeLine, traceTable, pairTable, gearTable, emissionTable}
+use Rattle.claims.specs.Table.{ratioLine, fallLine, geared, closeLine, traceTable, pairTable, gearTable, readable, fitted, efficiency, emissionTable}
 use Rattle.claims.proofs.Checks.{check, each, pairChecks, pair-judged, gearChecks, gear-judged, judgedAnswer, emissionChecks, emission-judged}
 
 -- ---- a list of lines
@@ -142,13 +150,9 @@ number-kept e f some is = go (ltb (e .number) (f .number)) refl (eqb (e .number)
 pub rising-numbered : (last : Outcome) (ls : List Line) → 1 ≤ last .number → rising last ls ≡ true → Numbered ls
 rising-numbered last [] some is = tt
 rising-numbered last (l ∷ ls) some is =
-    let two = parts (notAfter last (l .gives)) (rising (l .gives) ls) is in
+    let two = apart (notAfter last (l .gives)) (rising (l .gives) ls) is in
     let here = number-kept last (l .gives) some (two .0) in
     (here, rising-numbered (l .gives) ls here (two .1))
-  where
-    parts : (a b : Bool) → (a && b) ≡ true → (a ≡ true) × (b ≡ true)
-    parts true b e = (refl, e)
-    parts false b e = absurd (false≢true e)
 
 numbered-append : (ls ms : List Line) → Numbered ls → Numbered ms → Numbered (ls ++ ms)
 numbered-append [] ms p q = q
@@ -225,16 +229,50 @@ module _ (trace : List ℕ) (v : VehicleSheet) (room start : ℕ) where
       (decides (gearTable trace v room start) (rising-numbered (outcome 1 0 0 0) (gearTable trace v room start) (omega arith) gear-rising))
 
 -- ---- the emission sheet
+-- of the cutter's reading "not fitted" is no fault
+cutter-readable : (sent : Message) → isUsable (cutterUnits sent) ≡ readable NMHC sent
+unfolding cutterUnits
+cutter-readable sent = go (isFitted sent)
+  where
+    go : (fitted : Bool) → isUsable (cond fitted (unitsOf sent) (Units (exactly (pos 0)))) ≡ (not fitted || isUsable (unitsOf sent))
+    go true = refl
+    go false = refl
+
+not-under : (a b : ℕ) → leb a b ≡ not (ltb b a)
+not-under a b = go (ltb b a) refl
+  where
+    go : (t : Bool) → ltb b a ≡ t → leb a b ≡ not t
+    go true e = lt-leb a b (ltb-true b a e)
+    go false e = le-leb a b (ltb-false b a e)
+
+-- 19, as the core judges it
+efficiency-good : (s : BagSheet) → cutterGood (cutterOf s) ≡ efficiency s .holds
+unfolding cutterOf
+efficiency-good s =
+    rw (not-under (s .efficiencies .methane + 500) (s .efficiencies .ethane))
+    (go (fitted (s .first)) (fitted (s .second)) (eqb (s .class) 3) (fitted (s .third)) _)
+  where
+    go : (first second three third under : Bool) →
+        (not ((first && second) && (not three || third)) || not under) ≡ not ((first && (second && cond three third true)) && under)
+    go true true true true under = refl
+    go true true true false under = refl
+    go true true false third under = refl
+    go true false three third under = refl
+    go false second three third under = refl
+
 module _ (s : BagSheet) where
   emission-lines : linesOf (emissionChecks s) ≡ emissionTable s
   unfolding sheetChecks testChecks valueChecks messageChecks readingChecks lateChecks humidityGood
   emission-lines = go (eqb (s .class) 3) refl (readIn s) refl
     where
+      cutter : (p : Part) → (isUsable (cutterUnits (p .bag .cutter)) ≡ readable NMHC (p .bag .cutter)) × (isUsable (cutterUnits (p .air .cutter)) ≡ readable NMHC (p .air .cutter))
+      cutter p = (cutter-readable (p .bag .cutter), cutter-readable (p .air .cutter))
+
       go : (b : Bool) → eqb (s .class) 3 ≡ b → (x : Read) → readIn s ≡ x → linesOf (emissionChecks s) ≡ emissionTable s
-      go true class (read.Units r) was = rw (was, class)
-      go true class (read.Refused refusal) was = rw (was, class)
-      go false class (read.Units r) was = rw (was, class)
-      go false class (read.Refused refusal) was = rw (was, class)
+      go true class (read.Units r) was = rw (was, efficiency-good s, cutter (s .first) .0, cutter (s .first) .1, cutter (s .second) .0, cutter (s .second) .1, cutter (s .third) .0, cutter (s .third) .1, class)
+      go true class (read.Refused refusal) was = rw (was, cutter (s .first) .0, cutter (s .first) .1, cutter (s .second) .0, cutter (s .second) .1, cutter (s .third) .0, cutter (s .third) .1, class)
+      go false class (read.Units r) was = rw (was, efficiency-good s, cutter (s .first) .0, cutter (s .first) .1, cutter (s .second) .0, cutter (s .second) .1, class)
+      go false class (read.Refused refusal) was = rw (was, cutter (s .first) .0, cutter (s .first) .1, cutter (s .second) .0, cutter (s .second) .1, class)
 
   pub emission-rising : rising (outcome 10 0 0 0) (emissionTable s) ≡ true
   emission-rising = go (eqb (s .class) 3) refl (readIn s) refl

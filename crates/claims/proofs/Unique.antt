@@ -38,7 +38,10 @@ use Rattle.reading.proofs as reading
 use Rattle.bag.proofs as bag
 use Rattle.stage.proofs as stage
 use Rattle.weigh.proofs as weigh
+use Rattle.cutter.proofs as cutter
+use Rattle.sides.proofs as sides
 use Rattle.part.proofs as part
+use Rattle.late.proofs as late
 use Rattle.emission.proofs as emission
 use Rattle.preset.proofs as preset
 use Rattle.speeds.proofs as speeds
@@ -226,6 +229,12 @@ speeds-of-vehicle-unique κs a x y ws vs pre h h′ = (h ∙ sym h′, refl)
 pub reading-convert-unique : Coincide 0 reading.convert.Kinds.ps reading.convert.Kinds.r reading.convert.Reads.Pre reading.convert.Reads.Post
 reading-convert-unique κs a x y ws vs pre h h′ = (h ∙ sym h′, refl)
 
+pub reading-is-fitted-unique : Coincide 0 reading.is_fitted.Kinds.ps reading.is_fitted.Kinds.r reading.is_fitted.Reads.Pre reading.is_fitted.Reads.Post
+reading-is-fitted-unique κs a x y ws vs pre h h′ = (h ∙ sym h′, refl)
+
+pub reading-convert-cutter-unique : Coincide 0 reading.convert_cutter.Kinds.ps reading.convert_cutter.Kinds.r reading.convert_cutter.Reads.Pre reading.convert_cutter.Reads.Post
+reading-convert-cutter-unique κs a x y ws vs pre h h′ = (h ∙ sym h′, refl)
+
 pub reading-float-of-unique : Coincide 0 reading.float_of.Kinds.ps reading.float_of.Kinds.r reading.float_of.Reads.Pre reading.float_of.Reads.Post
 reading-float-of-unique κs a x y ws vs pre h h′ = (h ∙ sym h′, refl)
 
@@ -286,10 +295,27 @@ weigh-fuel-unique κs a x y ws vs pre h h′ = (h ∙ sym h′, refl)
 pub weigh-verdict-of-unique : Coincide 0 weigh.verdict_of.Kinds.ps weigh.verdict_of.Kinds.r weigh.verdict_of.Reads.Pre weigh.verdict_of.Reads.Post
 weigh-verdict-of-unique κs a x y ws vs pre h h′ = (h ∙ sym h′, refl)
 
--- ---- part
-pub part-read-part-unique : Coincide 0 part.read_part.Kinds.ps part.read_part.Kinds.r part.read_part.Reads.Pre part.read_part.Reads.Post
-part-read-part-unique κs a x y ws vs pre h h′ = (h ∙ sym h′, refl)
+-- ---- cutter
+pub cutter-cutter-of-unique : Coincide 0 cutter.cutter_of.Kinds.ps cutter.cutter_of.Kinds.r cutter.cutter_of.Reads.Pre cutter.cutter_of.Reads.Post
+cutter-cutter-of-unique κs a x y ws vs pre h h′ = (h ∙ sym h′, refl)
 
+pub cutter-is-good-unique : Coincide 0 cutter.is_good.Kinds.ps cutter.is_good.Kinds.r cutter.is_good.Reads.Pre cutter.is_good.Reads.Post
+cutter-is-good-unique κs a x y ws vs pre h h′ = (h ∙ sym h′, refl)
+
+pub cutter-nmhc-unique : Coincide 0 cutter.nmhc.Kinds.ps cutter.nmhc.Kinds.r cutter.nmhc.Reads.Pre cutter.nmhc.Reads.Post
+cutter-nmhc-unique κs a x y ws vs pre h h′ = (h ∙ sym h′, refl)
+
+-- ---- sides
+pub sides-no-gases-unique : Coincide 0 sides.no_gases.Kinds.ps sides.no_gases.Kinds.r sides.no_gases.Reads.Pre sides.no_gases.Reads.Post
+sides-no-gases-unique κs a x y ws vs pre h h′ = (h ∙ sym h′, refl)
+
+pub sides-read-part-unique : Coincide 0 sides.read_part.Kinds.ps sides.read_part.Kinds.r sides.read_part.Reads.Pre sides.read_part.Reads.Post
+sides-read-part-unique κs a x y ws vs pre h h′ = (h ∙ sym h′, refl)
+
+pub sides-readings-in-unique : Coincide 0 sides.readings_in.Kinds.ps sides.readings_in.Kinds.r sides.readings_in.Reads.Pre sides.readings_in.Reads.Post
+sides-readings-in-unique κs a x y ws vs pre h h′ = (h ∙ sym h′, refl)
+
+-- ---- part
 pub part-g-in-unique : Coincide 0 part.g_in.Kinds.ps part.g_in.Kinds.r part.g_in.Reads.Pre part.g_in.Reads.Post
 part-g-in-unique κs a x y ws vs pre h h′ = (h ∙ sym h′, refl)
 
@@ -302,10 +328,11 @@ part-is-dry-enough-unique κs a x y ws vs pre h h′ = (h ∙ sym h′, refl)
 pub part-part-of-unique : Coincide 0 part.part_of.Kinds.ps part.part_of.Kinds.r part.part_of.Reads.Pre part.part_of.Reads.Post
 part-part-of-unique κs a x y ws vs pre h h′ = (h ∙ sym h′, refl)
 
--- ---- emission
-pub emission-no-gases-unique : Coincide 0 emission.no_gases.Kinds.ps emission.no_gases.Kinds.r emission.no_gases.Reads.Pre emission.no_gases.Reads.Post
-emission-no-gases-unique κs a x y ws vs pre h h′ = (h ∙ sym h′, refl)
+-- ---- late
+pub late-judge-unique : Coincide 0 late.judge.Kinds.ps late.judge.Kinds.r late.judge.Reads.Pre late.judge.Reads.Post
+late-judge-unique κs a x y ws vs pre h h′ = (h ∙ sym h′, refl)
 
+-- ---- emission
 pub emission-no-part-unique : Coincide 0 emission.no_part.Kinds.ps emission.no_part.Kinds.r emission.no_part.Reads.Pre emission.no_part.Reads.Post
 emission-no-part-unique κs a x y ws vs pre h h′ = (h ∙ sym h′, refl)
 

@@ -2,7 +2,7 @@
 -- the limit is at or above the lower end and below the upper. Assumes nothing.
 use mathlib.Core.Path.{_≡_, refl}
 use mathlib.Core.Logic.{⊎-elim}
-use mathlib.Core.Bool.{Bool, true, false, cond, false≢true}
+use mathlib.Core.Bool.{Bool, true, false, not, cond, _||_, false≢true}
 use Prim.Native.Nat.{ℕ}
 use lib.IntN.{ℤ, pos}
 use lib.Signed.{_<ℤ_, leZ, ltZ, clashℤ, <ℤ-≤ℤ-trans}
@@ -10,17 +10,19 @@ use Rattle.arith.specs.declared.Ends.{Ends}
 use Rattle.arith.specs.Fraction.{Fraction, Between}
 use Rattle.arith.proofs.Ring.{mul-mono, mul-mono-<, ≤-trans, <-≤, ≤-or-<}
 use Rattle.arith.proofs.Machine.{lt-true, lt-false, le-true}
-use Rattle.reading.specs.Gas.{Gas}
+use Rattle.reading.specs.Gas.{Gas, isNMHC}
 use Rattle.bag.specs.declared.BagSheet.{BagSheet}
 use Rattle.bag.specs.Sheet.{limitAt}
 use Rattle.weigh.specs.declared.Verdict.the-variants.{Pass, Fail, Undecided}
 use Rattle.weigh.specs.Test.{verdictOf}
-use Rattle.emission.specs.declared.TestSides.{TestSides}
+use Rattle.cutter.specs.NonMethane.{cutterOf}
+use Rattle.sides.specs.declared.TestSides.{TestSides}
+use Rattle.sides.specs.Gases.{endsAt}
 use Rattle.emission.specs.declared.TestResult.{TestResult}
 use Rattle.emission.specs.declared.Answer.the-variants.{Result}
-use Rattle.emission.specs.Test.{partsIn, verdictsOf, resultOf, testAnswer}
+use Rattle.emission.specs.Test.{partsIn, verdictAt, nmhcVerdict, verdictsOf, resultOf, testAnswer}
 use Rattle.emission.proofs.Each.{verdict-at}
-use Rattle.claims.specs.Exact.{TestPpm, TestMeasured}
+use Rattle.claims.specs.Exact.{TestPpm, has, TestMeasured}
 use Rattle.claims.specs.Statements.{Justified, JustifiedIn}
 use Rattle.claims.proofs.Accepted.{accepted-result}
 use Rattle.claims.proofs.Contained.{contained}
@@ -41,6 +43,7 @@ module _ {e : Ends} {q : Fraction} (h : Between e q) (limit : ℕ) where
             fail = λ v. absurd (false≢true (cc));
             undecided = λ v. absurd (false≢true (cc));
             only = λ l g. clashℤ g (le-true x);
+            given = λ v. false≢true (cc);
           }
       go false true x y =
           record {
@@ -48,6 +51,7 @@ module _ {e : Ends} {q : Fraction} (h : Between e q) (limit : ℕ) where
             fail = λ v. <ℤ-≤ℤ-trans (mul-mono-< (q .den) (h .positive) (lt-true y)) (h .above);
             undecided = λ v. absurd (false≢true (cc));
             only = λ l g. clashℤ (lt-true y) l;
+            given = λ v. false≢true (cc);
           }
       go false false x y =
           record {
@@ -55,16 +59,28 @@ module _ {e : Ends} {q : Fraction} (h : Between e q) (limit : ℕ) where
             fail = λ v. absurd (false≢true (cc));
             undecided = λ v. (lt-false y, above x);
             only = λ l g. refl;
+            given = λ v. false≢true (cc);
           }
 
 -- the verdicts of a result are those of its weighted ends
 verdicts-in : (s : BagSheet) (r : TestResult) (readings : TestSides) →
-    r ≡ resultOf s (partsIn s readings) → r .verdicts ≡ verdictsOf (r .weighted) (s .limits)
+    r ≡ resultOf s (cutterOf s .fitted) (partsIn s (cutterOf s) readings) → r .verdicts ≡ verdictsOf (cutterOf s .fitted) (r .weighted) (s .limits)
 unfolding resultOf
 verdicts-in s r readings e = rw e
 
-pub verdicts : (s : BagSheet) (x : TestPpm) (r : TestResult) → testAnswer s ≡ Result r → TestMeasured s x → (gas : Gas) → JustifiedIn s x r gas
-unfolding verdictsOf
-verdicts s x r e m gas =
+-- of a gas that the test has
+verdict-there : (s : BagSheet) (r : TestResult) (gas : Gas) → has s gas ≡ true → r .verdicts ≡ verdictsOf (cutterOf s .fitted) (r .weighted) (s .limits) →
+    verdictAt gas (r .verdicts) ≡ verdictOf (endsAt gas (r .weighted)) (limitAt gas (s .limits))
+unfolding verdictsOf nmhcVerdict
+verdict-there s r gas there e = rw (e, verdict-at gas) (go (isNMHC gas) (cutterOf s .fitted) there)
+  where
+    go : (fifth fitted : Bool) → (not fifth || fitted) ≡ true →
+        cond fifth (nmhcVerdict fitted) verdictOf (endsAt gas (r .weighted)) (limitAt gas (s .limits)) ≡ verdictOf (endsAt gas (r .weighted)) (limitAt gas (s .limits))
+    go true true h = refl
+    go true false h = absurd (false≢true h)
+    go false fitted h = refl
+
+pub verdicts : (s : BagSheet) (x : TestPpm) (r : TestResult) → testAnswer s ≡ Result r → TestMeasured s x → (gas : Gas) → has s gas ≡ true → JustifiedIn s x r gas
+verdicts s x r e m gas there =
     let a = accepted-result e in
-    rw (verdicts-in s r (a .readings) (a .result), verdict-at gas) (justified (contained s x r e m .weighted gas) (limitAt gas (s .limits)))
+    rw (verdict-there s r gas there (verdicts-in s r (a .readings) (a .result))) (justified (contained s x r e m .weighted gas there) (limitAt gas (s .limits)))

@@ -1,4 +1,4 @@
--- Demand 3, widths: where each part of the class covers at least 1,000 m and has at most 200 cubic metres, the weighted ends of HC, CO and CO2 are at
+-- Demand 3, widths, of the first four gases: where each part of the class covers at least 1,000 m and has at most 200 cubic metres, the weighted ends of HC, CO and CO2 are at
 -- most 8,962 apart, and those of NOx at most 25,817 where both ends of its concentration are within 256 ppm of zero; asked are 10,000 and 30,000
 -- (02, M-104). Assumes nothing.
 use mathlib.Core.Path.{_≡_, refl, ap}
@@ -17,7 +17,7 @@ use Rattle.arith.specs.Fitting.{Sized, Narrow}
 use Rattle.arith.proofs.Parts.{zs, mul-parts}
 use Rattle.arith.proofs.Size.{abs-parts, wider-size, product-size, scaled-size, divided-size}
 use Rattle.arith.proofs.Width.{exactly-narrow, wider-narrow, sum-narrow, difference-narrow, scaled-narrow, product-narrow, divided-narrow}
-use Rattle.reading.specs.Gas.{Gas, HC, CO, CO2, isNOx}
+use Rattle.reading.specs.Gas.{Gas, HC, CO, CO2, isNOx, isNMHC}
 use Rattle.refusal.specs.declared.Judged.the-variants.{Accepted}
 use Rattle.bag.specs.declared.Part.{Part}
 use Rattle.bag.specs.declared.Triple.{Triple}
@@ -28,30 +28,35 @@ use Rattle.bag.specs.Sound.{Tested}
 use Rattle.bag.proofs.Sound.{accepted-sound}
 use Rattle.weigh.specs.declared.Weights.{Weights}
 use Rattle.stage.specs.Combination.{combinationOf}
-use Rattle.stage.specs.Part.{gtr, kelvinOf, volumeOf, gOf, concentrationOf, gasVolumeOf, massOf, khOf, noxMassOf, rateOf}
+use Rattle.stage.specs.Part.{gtr, kelvinOf, volumeOf, gOf, qOf, concentrationOf, gasVolumeOf, massOf, khOf, noxMassOf, rateOf}
 use Rattle.weigh.specs.Test.{weightsOf, weightedOf}
 use Rattle.stage.specs.Ranges.{UpTo, ConcentrationRanges, largestReading, largestConcentration}
 use Rattle.stage.proofs.UpTo.{upTo-size}
 use Rattle.stage.proofs.Steps.{kelvin-least, rest-upTo, vapour-most, divisor-least}
-use Rattle.stage.proofs.Sizes.{kh-size}
+use Rattle.stage.proofs.Sizes.{concentration-size, kh-size}
 use Rattle.weigh.proofs.Sizes.{weights-whole}
-use Rattle.part.specs.Part.{endsAt, gIn, volumeIn, gasMass, massIn, ratesOf, partOf}
+use Rattle.cutter.specs.declared.Cutter.{Cutter}
+use Rattle.cutter.specs.NonMethane.{cutterOf}
+use Rattle.sides.specs.declared.Sides.{Sides}
+use Rattle.sides.specs.declared.TestSides.{TestSides}
+use Rattle.sides.specs.declared.Read.{Read}
+use Rattle.sides.specs.declared.Read.the-variants.{Units}
+use Rattle.sides.specs.Gases.{endsAt, nothing}
+use Rattle.sides.specs.ReadIn.{readIn}
+use Rattle.sides.proofs.Each.{each-at}
+use Rattle.part.specs.Part.{gIn, volumeIn, stagedOf, gasMass, massIn, ratesOf, partOf}
 use Rattle.part.specs.Ranges.{PartRanges}
-use Rattle.part.specs.declared.Sides.{Sides}
-use Rattle.part.proofs.Each.{each-at}
-use Rattle.emission.specs.declared.TestSides.{TestSides}
-use Rattle.emission.specs.declared.Read.{Read}
-use Rattle.emission.specs.declared.Read.the-variants.{Units}
-use Rattle.part.proofs.Sizes.{volume-ranges, masses-ranges, concentration-sizes, kh-ranges}
+use Rattle.part.proofs.Sizes.{volume-ranges, staged-read, masses-ranges, kh-ranges}
 use Rattle.emission.specs.declared.TestResult.{TestResult}
 use Rattle.emission.specs.declared.Answer.the-variants.{Result}
-use Rattle.emission.specs.Test.{nothing, noPart, thirdPart, partsIn, weightedGases, resultOf, readIn, judgeLate, testAnswer}
-use Rattle.emission.specs.Ranges.{PartsRanges}
-use Rattle.emission.proofs.Ranges.{parts-ranges}
+use Rattle.late.specs.Late.{judgeLate}
+use Rattle.late.specs.Ranges.{PartsRanges}
+use Rattle.late.proofs.Late.{parts-ranges}
+use Rattle.emission.specs.Test.{noPart, thirdPart, partsIn, weightedGases, resultOf, testAnswer}
 use Rattle.claims.specs.Statements.{concentrationIn, Ordinary, OrdinaryTest, widthOf, provenWidth}
 use Rattle.claims.proofs.Accepted.{accepted-result}
 use Rattle.claims.proofs.Readings.{NarrowSides, read-narrow, TestRead, test-read}
-use Rattle.claims.proofs.Gases.{dryMassIn, khIn, mass-at}
+use Rattle.claims.proofs.Gases.{khIn, mass-at}
 
 -- an exact number divided once is one apart
 quotient-narrow : {a : Ends} (d : ℤ) → pos 0 <ℤ d → Narrow 0 a → Narrow 1 (dividedBy a d)
@@ -107,7 +112,7 @@ weighted-narrow {w} weights e a b c =
 abbrev massWidth : Bool → ℕ
 massWidth nox = cond nox 25815 8960
 
-module _ {t : Triple} {p : Part} {sides : Sides} (read : NarrowSides sides) (r : PartRanges t p sides) (d : 100 ≤ t .d) where
+module _ {t : Triple} {c : Cutter} {p : Part} {sides : Sides} (read : NarrowSides sides) (r : PartRanges t c p sides) (d : 100 ≤ t .d) where
   volume-narrow : Narrow 1 (volumeIn p)
   unfolding volumeOf
   volume-narrow =
@@ -131,19 +136,28 @@ module _ {t : Triple} {p : Part} {sides : Sides} (read : NarrowSides sides) (r :
   unfolding gOf
   g-narrow =
       wider-narrow (omega (arith, r .triple-ranged .wc .1, r .triple-ranged .wh .1))
-      (combination-narrow 10 (t .wc) (t .wh) (read .bag CO2) (read .bag CO) (read .bag HC))
+      (combination-narrow 10 (t .wc) (t .wh) (read .bag CO2 refl) (read .bag CO refl) (read .bag HC refl))
 
-  concentration-narrow-in : (gas : Gas) → Narrow 86 (concentrationIn gas t sides)
-  concentration-narrow-in gas =
-      concentration-narrow (omega arith) (masses-ranges r gas .ranges) (r .air-sizes gas) (read .bag gas) (read .air gas) g-narrow
+  -- of a gas that was read, the stages take what was read
+  ranges-in : (gas : Gas) → isNMHC gas ≡ false → ConcentrationRanges (endsAt gas (sides .bag)) (endsAt gas (sides .air)) (gIn t (sides .bag)) (qOf (t .d))
+  unfolding stagedOf
+  ranges-in gas o = rw (staged-read c (sides .bag) gas o, staged-read c (sides .air) gas o) at (masses-ranges r gas .ranges)
+
+  abbrev readMassIn : Gas → Ends
+  readMassIn gas = gasMass (volumeIn p) (endsAt gas (sides .bag)) (endsAt gas (sides .air)) (gIn t (sides .bag)) (qOf (t .d)) (densityAt gas (p .density))
+
+  concentration-narrow-in : (gas : Gas) → isNMHC gas ≡ false → Narrow 86 (concentrationIn gas t sides)
+  concentration-narrow-in gas o =
+      concentration-narrow (omega arith) (ranges-in gas o) (r .air-sizes gas) (read .bag gas o) (read .air gas o) g-narrow
 
   -- 200,000,000 x 86 + 268,435,456 is at most 4,096,000 x 4,265, and 2,100,000 x 4,266 at most 1,000,000 x 8,959
-  dry-mass : (gas : Gas) → Ordinary gas t p sides → Narrow 8960 (dryMassIn gas t p sides)
+  dry-mass : (gas : Gas) → Ordinary gas t p sides → Narrow 8960 (readMassIn gas)
   unfolding gasMass
   dry-mass gas o =
       mass-narrow (densityAt gas (p .density)) 4266 8959 (r .ranged .density gas .1) (omega arith)
-      (gas-volume-narrow largestConcentration 4265 (omega arith) (volume-sized (o .volume)) (concentration-sizes r gas)
-      volume-narrow (concentration-narrow-in gas))
+      (gas-volume-narrow largestConcentration 4265 (omega arith) (volume-sized (o .volume))
+      (concentration-size (ranges-in gas (o .read)) (r .bag-sizes gas) (r .air-sizes gas))
+      volume-narrow (concentration-narrow-in gas (o .read)))
 
   kh-narrow : Narrow 1 (khOf (p .humidity) (p .saturation) (p .barometer))
   unfolding khOf
@@ -157,7 +171,7 @@ module _ {t : Triple} {p : Part} {sides : Sides} (read : NarrowSides sides) (r :
   -- within 256 ppm of zero the gas volume is at most 51,200,000 and its ends 4,201 apart, the mass 107,520,000 and 8,824 apart; and
   -- 107,520,000 + 179,536 x 8,824 is at most 65,536 x 25,814
   nox-mass : (gas : Gas) → Ordinary gas t p sides → Sized 1048576 (concentrationIn gas t sides) →
-      Narrow 25815 (noxMassOf (dryMassIn gas t p sides) (khIn p))
+      Narrow 25815 (noxMassOf (readMassIn gas) (khIn p))
   unfolding noxMassOf gasMass massOf gasVolumeOf
   nox-mass gas o c =
       let v = volume-sized (o .volume) in
@@ -165,34 +179,34 @@ module _ {t : Triple} {p : Part} {sides : Sides} (read : NarrowSides sides) (r :
       let most = r .ranged .density gas .1 in
       let gas-size = divided-size {q = 51200000} 4096000 (omega arith) (wider-size (omega arith) (product-size v c)) in
       let mass-size = divided-size {q = 107520000} 1000000 (omega arith) (wider-size (omega arith) (scaled-size (pos d) most gas-size)) in
-      let gas-volume = gas-volume-narrow 1048576 4200 (omega arith) v c volume-narrow (concentration-narrow-in gas) in
+      let gas-volume = gas-volume-narrow 1048576 4200 (omega arith) v c volume-narrow (concentration-narrow-in gas (o .read)) in
       let mass = mass-narrow d 4201 8823 most (omega arith) gas-volume in
       divided-narrow {q = 25814} 65536 (omega arith) (wider-narrow (omega arith) (product-narrow mass-size (kh-size (kh-ranges r)) mass kh-narrow))
 
-  mass-in : (gas : Gas) → Ordinary gas t p sides → Narrow (massWidth (isNOx gas)) (endsAt gas (massIn t p sides))
-  mass-in gas o = rw (mass-at gas) (go (isNOx gas) (o .nox))
+  mass-in : (gas : Gas) → Ordinary gas t p sides → Narrow (massWidth (isNOx gas)) (endsAt gas (massIn t c p sides))
+  mass-in gas o = rw (mass-at gas, o .read) (go (isNOx gas) (o .nox))
     where
       go : (b : Bool) → (b ≡ true → Sized 1048576 (concentrationIn gas t sides)) →
-          Narrow (massWidth b) (cond b (noxMassOf (dryMassIn gas t p sides) (khIn p)) (dryMassIn gas t p sides))
+          Narrow (massWidth b) (cond b (noxMassOf (readMassIn gas) (khIn p)) (readMassIn gas))
       go true c = nox-mass gas o (c refl)
       go false c = dry-mass gas o
 
-  rate-in : (gas : Gas) → Ordinary gas t p sides → Narrow (suc (massWidth (isNOx gas))) (endsAt gas (partOf t p sides .rate))
+  rate-in : (gas : Gas) → Ordinary gas t p sides → Narrow (suc (massWidth (isNOx gas))) (endsAt gas (partOf t c p sides .rate))
   unfolding partOf ratesOf
   rate-in gas o = rw (each-at gas) (rate-narrow (p .distance) (o .distance) (mass-in gas o))
 
 -- ---- the test
-module _ {s : BagSheet} {readings : TestSides} (t : Tested s) (read : TestRead s readings) (r : PartsRanges s readings) where
-  third-in : (gas : Gas) → OrdinaryTest gas s readings → Narrow (suc (massWidth (isNOx gas))) (endsAt gas (thirdPart s (readings .third) .rate))
+module _ {s : BagSheet} {readings : TestSides} (t : Tested s) (read : TestRead s readings) (r : PartsRanges s (cutterOf s) readings) where
+  third-in : (gas : Gas) → OrdinaryTest gas s readings → Narrow (suc (massWidth (isNOx gas))) (endsAt gas (thirdPart s (cutterOf s) (readings .third) .rate))
   unfolding thirdPart nothing
   third-in gas o = go (eqb (s .class) 3) (eqb-true (s .class) 3)
     where
       go : (b : Bool) → (b ≡ true → s .class ≡ 3) →
-          Narrow (suc (massWidth (isNOx gas))) (endsAt gas (cond b (partOf (s .triple) (s .third) (readings .third)) noPart .rate))
+          Narrow (suc (massWidth (isNOx gas))) (endsAt gas (cond b (partOf (s .triple) (cutterOf s) (s .third) (readings .third)) noPart .rate))
       go true f = rate-in (read-narrow 3 (s .third) (read .third (f refl))) (r .third (f refl)) (t .triple .d .0) gas (o .third (f refl))
       go false f = rw (each-at gas) (wider-narrow (omega arith) (exactly-narrow (pos 0)))
 
-  weighted-in : (gas : Gas) → OrdinaryTest gas s readings → Narrow (suc (suc (massWidth (isNOx gas)))) (endsAt gas (resultOf s (partsIn s readings) .weighted))
+  weighted-in : (gas : Gas) → OrdinaryTest gas s readings → Narrow (suc (suc (massWidth (isNOx gas)))) (endsAt gas (resultOf s (cutterOf s .fitted) (partsIn s (cutterOf s) readings) .weighted))
   unfolding resultOf partsIn weightedGases
   weighted-in gas o =
       rw (each-at gas)
@@ -220,7 +234,7 @@ module _ (s : BagSheet) (readings : TestSides) (r : TestResult) (e : testAnswer 
       let a = accepted-result e in
       let sound = accepted-sound s (a .sheet) in
       let same : a .readings ≡ readings = same-readings (a .read) read in
-      let late : judgeLate s readings ≡ Accepted = rw same at (a .late) in
+      let late : judgeLate s (cutterOf s) readings ≡ Accepted = rw same at (a .late) in
       let weighted = weighted-in (sound .tested) (test-read read) (parts-ranges sound read late) gas o in
       rw (a .result, same) (wider-narrow (two-more (isNOx gas)) weighted)
 

@@ -1,6 +1,6 @@
 -- Readings before M-104: one whole number of units, "nearest, halves up" (01, Bag sheet and figures), which the stages took as both its ends.
 use mathlib.Core.Path.{_≡_}
-use mathlib.Core.Bool.{cond}
+use mathlib.Core.Bool.{false, cond}
 use Prim.Native.Nat.{ℕ}
 use lib.Dec.{eqb}
 use lib.IntN.{ℤ, pos, _*ℤ_}
@@ -13,18 +13,19 @@ use Rattle.reading.specs.declared.Message.{Message}
 use Rattle.reading.specs.declared.Worth.{Worth}
 use Rattle.reading.specs.declared.Worth.the-variants.{Unusable}
 use Rattle.reading.specs.Units.{Exact, value, none, exactUnits, upToLimit}
-use Rattle.reading.specs.Gas.{Gas, HC, CO, NOx, CO2, gasNumber, messageAt}
+use Rattle.reading.specs.Gas.{Gas, HC, CO, NOx, CO2, NMHC, isNMHC, gasNumber, messageAt}
 use Rattle.bag.specs.declared.Part.{Part}
 use Rattle.bag.specs.declared.BagSheet.{BagSheet}
 use Rattle.bag.specs.Sheet.{judgeSheet}
-use Rattle.part.specs.declared.GasRead.{GasRead}
-use Rattle.part.specs.declared.PartRead.{PartRead}
-use Rattle.part.specs.declared.PartRead.the-variants as partRead
-use Rattle.part.specs.Read.{readGas, onGas, sidesFrom}
-use Rattle.emission.specs.declared.Read.{Read}
-use Rattle.emission.specs.declared.Read.the-variants as read
+use Rattle.sides.specs.declared.GasRead.{GasRead}
+use Rattle.sides.specs.declared.PartRead.{PartRead}
+use Rattle.sides.specs.declared.PartRead.the-variants as partRead
+use Rattle.sides.specs.declared.Read.{Read}
+use Rattle.sides.specs.declared.Read.the-variants as read
+use Rattle.sides.specs.Gases.{nothing}
+use Rattle.sides.specs.ReadIn.{readGas, onGas, worthOf, sidesFrom, onPart}
 use Rattle.emission.specs.declared.Answer.{Answer}
-use Rattle.emission.specs.Test.{nothing, onPart, handUp, onRead, readAnswer}
+use Rattle.emission.specs.Test.{handUp, onRead, readAnswer}
 
 -- the largest whole number at or below the fraction plus a half
 abbrev pub nearest : Fraction → ℤ
@@ -38,8 +39,12 @@ unfoldable pub unitsBefore : Message → Worth
 unitsBefore message = roundedBefore (exactUnits message)
 
 -- ---- the whole test as it was: everything but the readings as it is
+-- the cutter came later (02, M-108): its reading is read as it is now
+abbrev pub worthBefore : Gas → Message → Worth
+worthBefore gas message = cond (isNMHC gas) (worthOf gas message) (unitsBefore message)
+
 abbrev pub gasBefore : ℕ → Part → Gas → GasRead
-gasBefore part p gas = readGas part (gasNumber gas) (unitsBefore (messageAt gas (p .bag))) (unitsBefore (messageAt gas (p .air)))
+gasBefore part p gas = readGas part (gasNumber gas) (worthBefore gas (messageAt gas (p .bag))) (worthBefore gas (messageAt gas (p .air)))
 
 unfoldable pub partBefore : ℕ → Part → PartRead
 partBefore part p =
@@ -47,7 +52,8 @@ partBefore part p =
     onGas (gasBefore part p CO) λ co.
     onGas (gasBefore part p NOx) λ nox.
     onGas (gasBefore part p CO2) λ co2.
-    partRead.Units (sidesFrom hc co nox co2)
+    onGas (gasBefore part p NMHC) λ cutter.
+    partRead.Units (sidesFrom hc co nox co2 cutter)
 
 unfoldable pub thirdBefore : ℕ → Part → PartRead
 thirdBefore class third = cond (eqb class 3) (partBefore 3 third) (partRead.Units (record { bag = nothing; air = nothing }))
@@ -70,10 +76,10 @@ pub record WholeUnits (message : Message) : Type 0 where
   pub units : ℤ
   pub whole : exact .num ≡ exact .den *ℤ units
 
--- every message of a part
+-- every message of a part but the cutter's
 pub record WholePart (p : Part) : Type 0 where
-  pub bag : (gas : Gas) → WholeUnits (messageAt gas (p .bag))
-  pub air : (gas : Gas) → WholeUnits (messageAt gas (p .air))
+  pub bag : (gas : Gas) → isNMHC gas ≡ false → WholeUnits (messageAt gas (p .bag))
+  pub air : (gas : Gas) → isNMHC gas ≡ false → WholeUnits (messageAt gas (p .air))
 
 -- of each part of the class
 pub record WholeTest (s : BagSheet) : Type 0 where

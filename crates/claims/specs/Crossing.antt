@@ -4,14 +4,14 @@ use mathlib.Core.Bool.{true, false}
 use mathlib.Core.List.{List, [], _∷_}
 use Prim.Native.Nat.{ℕ, _*_}
 use lib.Ieee.{ofBits, binary32}
-use Rattle.refusal.specs.declared.Refusal.the-variants.{Header, Second, Vehicle, Ratio, Value, Reading, Humidity, ReferenceMass, RotatingOrSpeed, LotSize, LotRecord}
+use Rattle.refusal.specs.declared.Refusal.the-variants.{Header, Second, Vehicle, Ratio, Value, Reading, Humidity, ReferenceMass, RotatingOrSpeed, LotSize, Efficiencies, LotRecord}
 use Rattle.refusal.specs.declared.Judged.the-variants.{Accepted, Refused}
 use Rattle.reading.specs.declared.Message.the-variants.{Ppm, Percent, OverRange, NotFitted}
-use Rattle.reading.specs.Gas.{HC, CO, NOx, CO2, gasNumber}
-use Rattle.weigh.specs.declared.Verdict.the-variants.{Pass, Fail, Undecided}
+use Rattle.reading.specs.Gas.{HC, CO, NOx, CO2, NMHC, gasNumber}
+use Rattle.weigh.specs.declared.Verdict.the-variants.{Pass, Fail, Undecided, NoVerdict}
 use Rattle.preset.specs.Preset.{petrolOf, dieselOf}
 use Rattle.outcome.specs.Outcome.{outcomeOf, chosenOf}
-use Rattle.record.specs.Record.{verdictNumber}
+use Rattle.record.specs.Record.{verdictNumber, flagOf}
 use Rattle.crossing.specs.Sheet.{messageOf}
 use Rattle.claims.specs.Figures.{Figure, _gives_}
 use Rattle.claims.specs.Table.{outcome}
@@ -30,14 +30,18 @@ crossing =
     ∷ (messageOf (record { kind = 1; bits = one }) gives Percent (ofBits binary32 one))
     ∷ (messageOf (record { kind = 2; bits = one }) gives OverRange)
     ∷ (messageOf (record { kind = 3; bits = one }) gives NotFitted)
-    ∷ (messageOf (record { kind = 4; bits = one }) gives NotFitted)
+    ∷ (messageOf (record { kind = 4; bits = one }) gives OverRange)
     ∷ (gasNumber HC gives 1)
     ∷ (gasNumber CO gives 2)
     ∷ (gasNumber NOx gives 3)
     ∷ (gasNumber CO2 gives 4)
+    ∷ (gasNumber NMHC gives 5)
     ∷ (verdictNumber Pass gives 1)
     ∷ (verdictNumber Fail gives 2)
     ∷ (verdictNumber Undecided gives 3)
+    ∷ (verdictNumber NoVerdict gives 0)
+    ∷ (flagOf false gives 0)
+    ∷ (flagOf true gives 1)
     ∷ (outcomeOf Accepted gives outcome 0 0 0 0)
     ∷ (outcomeOf (Refused Header) gives outcome 1 0 0 0)
     ∷ (outcomeOf (Refused (Second 7)) gives outcome 4 7 0 0)
@@ -49,6 +53,7 @@ crossing =
     ∷ (outcomeOf (Refused ReferenceMass) gives outcome 16 0 0 0)
     ∷ (outcomeOf (Refused RotatingOrSpeed) gives outcome 17 0 0 0)
     ∷ (outcomeOf (Refused LotSize) gives outcome 18 0 0 0)
+    ∷ (outcomeOf (Refused Efficiencies) gives outcome 19 0 0 0)
     ∷ (outcomeOf (Refused (LotRecord 0)) gives outcome 21 0 0 0)
     ∷ (outcomeOf (Refused (LotRecord 255)) gives outcome 21 255 0 0)
     ∷ (chosenOf Accepted false gives 1)
@@ -57,13 +62,14 @@ crossing =
     ∷ []
 
 -- 001, paragraph 8: densities in kg per cubic metre (8-2, 8-4, 8-6, 8-10), the triple (8-12, 8-13), k and the factors of HC, CO and CO2 (8-14, 8-15). D of
--- diesel is 13.28 there, and 13.3 in tenths (docs/DECISIONS.md, Presets)
+-- diesel is 13.28 there, and 13.3 in tenths (docs/DECISIONS.md, Presets). It has no density of the fifth gas
 abbrev pub fuels : List Figure
 fuels =
     (prints (petrolOf 750 .density .hc) 1000000 577 1000)
     ∷ (prints (petrolOf 750 .density .co) 1000000 116 100)
     ∷ (prints (petrolOf 750 .density .nox) 1000000 191 100)
     ∷ (prints (petrolOf 750 .density .co2) 1000000 183 100)
+    ∷ (petrolOf 750 .density .nmhc gives 0)
     ∷ (prints (petrolOf 750 .triple .d) 10 134 10)
     ∷ (prints (petrolOf 750 .triple .wc) 10 1 1)
     ∷ (prints (petrolOf 750 .triple .wh) 10 1 1)
@@ -76,6 +82,7 @@ fuels =
     ∷ (prints (dieselOf 840 .density .co) 1000000 116 100)
     ∷ (prints (dieselOf 840 .density .nox) 1000000 191 100)
     ∷ (prints (dieselOf 840 .density .co2) 1000000 183 100)
+    ∷ (dieselOf 840 .density .nmhc gives 0)
     ∷ (prints (dieselOf 840 .triple .d) 10 133 10)
     ∷ (prints (dieselOf 840 .fuel .k) 10000 1160 10000)
     ∷ (prints (dieselOf 840 .fuel .hc) 1000 862 1000)

@@ -13,7 +13,8 @@ use Rattle.bag.specs.declared.Part.{Part}
 use Rattle.bag.specs.declared.BagSheet.{BagSheet}
 use Rattle.emission.specs.declared.Answer.{Answer}
 use Rattle.emission.specs.declared.Answer.the-variants.{Result, Refused}
-use Rattle.emission.specs.Test.{nothing, noPart}
+use Rattle.sides.specs.Gases.{nothing}
+use Rattle.emission.specs.Test.{noPart}
 use Rattle.record.specs.Record.{recordOf}
 use Rattle.outcome.specs.declared.Outcome.{Outcome}
 use Rattle.crossing.specs.declared.MessageNumbers.{MessageNumbers}
@@ -24,14 +25,14 @@ use Rattle.crossing.specs.declared.TestOutcome.{TestOutcome}
 use Rattle.outcome.specs.Outcome.{outcomeOf}
 
 -- ---- in
--- 0 ppm, 1 percent, 2 over range; every other kind is not fitted
+-- 0 ppm, 1 percent, 3 not fitted; 2 is over range, and so is a kind that is none of the four: it brings no reading, and is no word that the cutter is missing
 abbrev pub messageOf : MessageNumbers → Message
 messageOf r =
     cond (eqb (r .kind) 0) (Ppm (ofBits binary32 (r .bits)))
-    (cond (eqb (r .kind) 1) (Percent (ofBits binary32 (r .bits))) (cond (eqb (r .kind) 2) OverRange NotFitted))
+    (cond (eqb (r .kind) 1) (Percent (ofBits binary32 (r .bits))) (cond (eqb (r .kind) 3) NotFitted OverRange))
 
 unfoldable pub bagOf : BagNumbers → Bag
-bagOf r = record { hc = messageOf (r .hc); co = messageOf (r .co); nox = messageOf (r .nox); co2 = messageOf (r .co2) }
+bagOf r = record { hc = messageOf (r .hc); co = messageOf (r .co); nox = messageOf (r .nox); co2 = messageOf (r .co2); cutter = messageOf (r .cutter) }
 
 unfoldable pub sheetPartOf : SheetPart → Part
 sheetPartOf p =
@@ -57,6 +58,7 @@ sheetOf s =
       triple = s .triple;
       fuel = s .fuel;
       limits = s .limits;
+      efficiencies = s .efficiencies;
       first = sheetPartOf (s .first);
       second = sheetPartOf (s .second);
       third = sheetPartOf (s .third);
@@ -70,11 +72,12 @@ withNothing outcome =
       outcome = outcome;
       parts = record { first = noPart; second = noPart; third = noPart };
       weighted = nothing;
-      verdicts = record { hc = 0; co = 0; nox = 0; co2 = 0 };
+      verdicts = record { hc = 0; co = 0; nox = 0; co2 = 0; nmhc = 0 };
+      «has_nmhc» = 0;
       fuel = exactly (pos 0);
     }
 
--- weighted and verdicts are those of the result record, which a lot reads
+-- weighted, verdicts and the fifth gas's flag are those of the result record, which a lot reads
 abbrev pub resultOut : Answer → TestOutcome
 resultOut (Result result) =
     record {
@@ -82,6 +85,7 @@ resultOut (Result result) =
       parts = result .parts;
       weighted = recordOf result .weighted;
       verdicts = recordOf result .verdicts;
+      «has_nmhc» = recordOf result .«has_nmhc»;
       fuel = result .fuel;
     }
 resultOut (Refused refusal) = withNothing (outcomeOf (judged.Refused refusal))

@@ -3,6 +3,7 @@
 use arith::Ends;
 use bag::BagSheet;
 use bag::Densities;
+use bag::Efficiencies;
 use bag::Fuel;
 use bag::Limits;
 use bag::Part;
@@ -11,16 +12,16 @@ use emission::Answer;
 use emission::Parts;
 use emission::TestResult;
 use outcome::Outcome;
-use part::Gases;
 use reading::Bag;
 use reading::Message;
 use record::VerdictNumbers;
 use refusal::Judged;
+use sides::Gases;
 ghost use mathlib.Core.Path.{_≡_};
 ghost use Rattle.emission.specs.declared.Answer.the-variants.{Result};
 ghost use Rattle.crossing.specs.Sheet.{messageOf, bagOf, sheetPartOf, sheetOf, withNothing, resultOut};
 
-// A message of the analyser: kind 0 ppm, 1 percent, 2 over range, and every other not fitted. The float comes as its bits.
+// A message of the analyser: kind 0 ppm, 1 percent, 2 over range, 3 not fitted, and every other over range too. The float comes as its bits.
 #[repr(C)]
 pub struct MessageNumbers {
     pub kind: u32,
@@ -34,6 +35,7 @@ pub struct BagNumbers {
     pub co: MessageNumbers,
     pub nox: MessageNumbers,
     pub co2: MessageNumbers,
+    pub cutter: MessageNumbers,
 }
 
 // `bag::Part`, its messages as numbers.
@@ -60,6 +62,7 @@ pub struct Sheet {
     pub triple: Triple,
     pub fuel: Fuel,
     pub limits: Limits,
+    pub efficiencies: Efficiencies,
     pub first: SheetPart,
     pub second: SheetPart,
     pub third: SheetPart,
@@ -73,6 +76,7 @@ pub struct TestOutcome {
     pub parts: Parts,
     pub weighted: Gases,
     pub verdicts: VerdictNumbers,
+    pub has_nmhc: u32,
     pub fuel: Ends,
 }
 
@@ -83,8 +87,8 @@ fn message_of(r: MessageNumbers) -> Message
     match kind {
         0 => Message::Ppm(reading::float_of(r.bits)),
         1 => Message::Percent(reading::float_of(r.bits)),
-        2 => Message::OverRange,
-        _ => Message::NotFitted,
+        3 => Message::NotFitted,
+        _ => Message::OverRange,
     }
 }
 
@@ -96,6 +100,7 @@ fn bag_of(r: BagNumbers) -> Bag
         co: message_of(r.co),
         nox: message_of(r.nox),
         co2: message_of(r.co2),
+        cutter: message_of(r.cutter),
     }
 }
 
@@ -124,12 +129,14 @@ pub fn sheet_of(s: Sheet) -> BagSheet
     let triple = s.triple;
     let fuel = s.fuel;
     let limits = s.limits;
+    let efficiencies = s.efficiencies;
     BagSheet {
         class: s.class,
         parts: s.parts,
         triple,
         fuel,
         limits,
+        efficiencies,
         first: sheet_part_of(s.first),
         second: sheet_part_of(s.second),
         third: sheet_part_of(s.third),
@@ -146,13 +153,15 @@ fn with_nothing(outcome: Outcome) -> TestOutcome
             second: emission::no_part(),
             third: emission::no_part(),
         },
-        weighted: emission::no_gases(),
+        weighted: sides::no_gases(),
         verdicts: VerdictNumbers {
             hc: 0,
             co: 0,
             nox: 0,
             co2: 0,
+            nmhc: 0,
         },
+        has_nmhc: 0,
         fuel: arith::exactly(0),
     }
 }
@@ -170,6 +179,7 @@ fn with_result(result: TestResult) -> TestOutcome
         parts,
         weighted,
         verdicts,
+        has_nmhc: record.has_nmhc,
         fuel,
     }
 }

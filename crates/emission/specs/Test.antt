@@ -1,6 +1,5 @@
--- The whole test (01, Bag sheet and figures): the readings or refusal 12, refusals 13 and 14, the parts, the weighted result, the fuel and the verdicts.
+-- The whole test (01, Bag sheet and figures): the parts, the weighted result, the fuel and the verdicts, past what is read and judged (sides, late).
 use mathlib.Core.Bool.{Bool, cond}
-use mathlib.Core.List.{List, [], _∷_, _++_}
 use Prim.Native.Nat.{ℕ}
 use lib.Dec.{eqb}
 use lib.IntN.{pos}
@@ -9,91 +8,46 @@ use Rattle.arith.specs.Stages.{exactly}
 use Rattle.refusal.specs.declared.Judged.{Judged}
 use Rattle.refusal.specs.declared.Judged.the-variants.{Accepted}
 use Rattle.refusal.specs.declared.Judged.the-variants as judged
-use Rattle.refusal.specs.declared.Refusal.the-variants.{Dilution, Humidity}
-use Rattle.refusal.specs.Judging.{Check, judgedBy}
-use Rattle.reading.specs.Gas.{Gas, HC, CO, NOx, CO2, among}
+use Rattle.reading.specs.Gas.{Gas, HC, CO, NOx, CO2, NMHC, isNMHC, among}
 use Rattle.bag.specs.declared.BagSheet.{BagSheet}
-use Rattle.bag.specs.declared.Part.{Part}
 use Rattle.bag.specs.declared.Fuel.{Fuel}
 use Rattle.bag.specs.declared.Limits.{Limits}
-use Rattle.bag.specs.Sheet.{limitAt, ofThird, judgeSheet}
+use Rattle.bag.specs.Sheet.{limitAt, judgeSheet}
 use Rattle.weigh.specs.declared.Verdict.{Verdict}
+use Rattle.weigh.specs.declared.Verdict.the-variants.{NoVerdict}
 use Rattle.weigh.specs.declared.Weights.{Weights}
 use Rattle.weigh.specs.Test.{weightsOf, weightedOf, fuelOf, verdictOf}
-use Rattle.part.specs.declared.Gases.{Gases}
+use Rattle.cutter.specs.declared.Cutter.{Cutter}
+use Rattle.cutter.specs.NonMethane.{cutterOf}
+use Rattle.sides.specs.declared.Gases.{Gases}
+use Rattle.sides.specs.declared.Sides.{Sides}
+use Rattle.sides.specs.declared.TestSides.{TestSides}
+use Rattle.sides.specs.declared.Read.{Read}
+use Rattle.sides.specs.declared.Read.the-variants as read
+use Rattle.sides.specs.Gases.{endsAt, each, nothing}
+use Rattle.sides.specs.ReadIn.{readIn}
 use Rattle.part.specs.declared.PartResult.{PartResult}
-use Rattle.part.specs.declared.Sides.{Sides}
-use Rattle.part.specs.declared.PartRead.{PartRead}
-use Rattle.part.specs.declared.PartRead.the-variants as partRead
-use Rattle.part.specs.Read.{readPart, readingChecks}
-use Rattle.part.specs.Part.{endsAt, each, diluted, dryEnough, partOf}
-use Rattle.emission.specs.declared.TestSides.{TestSides}
-use Rattle.emission.specs.declared.Read.{Read}
-use Rattle.emission.specs.declared.Read.the-variants as read
+use Rattle.part.specs.Part.{partOf}
+use Rattle.late.specs.Late.{judgeLate}
 use Rattle.emission.specs.declared.Parts.{Parts}
 use Rattle.emission.specs.declared.Verdicts.{Verdicts}
 use Rattle.emission.specs.declared.TestResult.{TestResult}
 use Rattle.emission.specs.declared.Answer.{Answer}
 use Rattle.emission.specs.declared.Answer.the-variants.{Result, Refused}
 
--- ---- the readings, or refusal 12
-unfoldable pub nothing : Gases
-nothing = each (λ gas. exactly (pos 0))
-
--- class 3 alone has a third part: of another it is not read
-unfoldable pub readThird : ℕ → Part → PartRead
-readThird class third = cond (eqb class 3) (readPart 3 third) (partRead.Units (record { bag = nothing; air = nothing }))
-
--- what follows a part that was read
-abbrev pub onPart : PartRead → (Sides → Read) → Read
-onPart (partRead.Units sides) next = next sides
-onPart (partRead.Refused refusal) next = read.Refused refusal
-
-unfoldable pub readIn : BagSheet → Read
-readIn s =
-    onPart (readPart 1 (s .first)) λ first.
-    onPart (readPart 2 (s .second)) λ second.
-    onPart (readThird (s .class) (s .third)) λ third.
-    read.Units (record { first = first; second = second; third = third })
-
--- 12 as the table has it
-unfoldable pub messageChecks : BagSheet → List Check
-messageChecks s = readingChecks 1 (s .first) ++ (readingChecks 2 (s .second) ++ ofThird (s .class) (readingChecks 3 (s .third)))
-
--- ---- refusals 13 and 14, over all parts each, the lowest number first
--- 13: "G not below Q"
-abbrev pub dilution : ℕ → Bool → Check
-dilution part holds = record { holds = holds; refusal = Dilution part }
-
--- 14: "H above 30"
-abbrev pub humidity : ℕ → Bool → Check
-humidity part holds = record { holds = holds; refusal = Humidity part }
-
-unfoldable pub lateChecks : BagSheet → TestSides → List Check
-lateChecks s r =
-    dilution 1 (diluted (s .triple) (r .first .bag))
-    ∷ dilution 2 (diluted (s .triple) (r .second .bag))
-    ∷ (ofThird (s .class) (dilution 3 (diluted (s .triple) (r .third .bag)) ∷ [])
-    ++ (humidity 1 (dryEnough (s .first))
-    ∷ humidity 2 (dryEnough (s .second))
-    ∷ ofThird (s .class) (humidity 3 (dryEnough (s .third)) ∷ [])))
-
-abbrev pub judgeLate : BagSheet → TestSides → Judged
-judgeLate s r = judgedBy (lateChecks s r)
-
 -- ---- the parts. A third part that the class does not have is nothing
 abbrev pub noPart : PartResult
 noPart = record { volume = exactly (pos 0); mass = nothing; rate = nothing }
 
-unfoldable pub thirdPart : BagSheet → Sides → PartResult
-thirdPart s sides = cond (eqb (s .class) 3) (partOf (s .triple) (s .third) sides) noPart
+unfoldable pub thirdPart : BagSheet → Cutter → Sides → PartResult
+thirdPart s c sides = cond (eqb (s .class) 3) (partOf (s .triple) c (s .third) sides) noPart
 
-unfoldable pub partsIn : BagSheet → TestSides → Parts
-partsIn s r =
+unfoldable pub partsIn : BagSheet → Cutter → TestSides → Parts
+partsIn s c r =
     record {
-      first = partOf (s .triple) (s .first) (r .first);
-      second = partOf (s .triple) (s .second) (r .second);
-      third = thirdPart s (r .third);
+      first = partOf (s .triple) c (s .first) (r .first);
+      second = partOf (s .triple) c (s .second) (r .second);
+      third = thirdPart s c (r .third);
     }
 
 -- ---- the result
@@ -103,13 +57,18 @@ weightedGases w first second third = each (λ gas. weightedOf w (endsAt gas firs
 
 -- "Verdict per gas"
 abbrev pub verdictAt : Gas → Verdicts → Verdict
-verdictAt gas v = among gas (v .hc) (v .co) (v .nox) (v .co2)
+verdictAt gas v = among gas (v .hc) (v .co) (v .nox) (v .co2) (v .nmhc)
 
 unfoldable pub eachVerdict : (Gas → Verdict) → Verdicts
-eachVerdict f = record { hc = f HC; co = f CO; nox = f NOx; co2 = f CO2 }
+eachVerdict f = record { hc = f HC; co = f CO; nox = f NOx; co2 = f CO2; nmhc = f NMHC }
 
-unfoldable pub verdictsOf : Gases → Limits → Verdicts
-verdictsOf weighted limits = eachVerdict (λ gas. verdictOf (endsAt gas weighted) (limitAt gas limits))
+-- 02, M-108: "leaves the fifth absent for the whole test, with no verdict"
+unfoldable pub nmhcVerdict : Bool → Ends → ℕ → Verdict
+nmhcVerdict hasNmhc rate limit = cond hasNmhc (verdictOf rate limit) NoVerdict
+
+unfoldable pub verdictsOf : Bool → Gases → Limits → Verdicts
+verdictsOf hasNmhc weighted limits =
+    eachVerdict (λ gas. cond (isNMHC gas) (nmhcVerdict hasNmhc) verdictOf (endsAt gas weighted) (limitAt gas limits))
 
 -- "Fuel .. from the weighted ends"
 abbrev pub fuelIn : Fuel → Gases → Ends
@@ -118,12 +77,13 @@ fuelIn f weighted = fuelOf (f .k) (f .hc) (f .co) (f .co2) (f .density) (weighte
 abbrev pub weightedIn : BagSheet → Parts → Gases
 weightedIn s parts = weightedGases (weightsOf (s .class)) (parts .first .rate) (parts .second .rate) (parts .third .rate)
 
-unfoldable pub resultOf : BagSheet → Parts → TestResult
-resultOf s parts =
+unfoldable pub resultOf : BagSheet → Bool → Parts → TestResult
+resultOf s hasNmhc parts =
     record {
+      «has_nmhc» = hasNmhc;
       parts = parts;
       weighted = weightedIn s parts;
-      verdicts = verdictsOf (weightedIn s parts) (s .limits);
+      verdicts = verdictsOf hasNmhc (weightedIn s parts) (s .limits);
       fuel = fuelIn (s .fuel) (weightedIn s parts);
     }
 
@@ -138,7 +98,7 @@ onRead (read.Refused refusal) next = Refused refusal
 
 -- past refusal 12
 unfoldable pub readAnswer : BagSheet → TestSides → Answer
-readAnswer s r = handUp (judgeLate s r) (Result (resultOf s (partsIn s r)))
+readAnswer s r = let c = cutterOf s in handUp (judgeLate s c r) (Result (resultOf s (c .fitted) (partsIn s c r)))
 
 unfoldable pub testAnswer : BagSheet → Answer
 testAnswer s = handUp (judgeSheet s) (onRead (readIn s) (readAnswer s))

@@ -5,16 +5,23 @@ use bag::BagSheet;
 use emission::Answer;
 use emission::TestResult;
 use emission::Verdicts;
-use part::Gases;
 use part::PartResult;
 use print::filled;
 use print::text;
 use reading::Message;
 use reading::Worth;
 use refusal::Refusal;
+use sides::Gases;
 use weigh::Verdict;
 
-fn gases(form: &[u8], g: Gases) {
+// The fifth gas stands last in a line, where the test has it.
+fn nmhc(has_nmhc: bool, e: Ends) {
+    if has_nmhc {
+        filled(b" NMHC # #", &[e.lower, e.upper]);
+    }
+}
+
+fn gases(form: &[u8], has_nmhc: bool, g: Gases) {
     filled(
         form,
         &[
@@ -28,16 +35,17 @@ fn gases(form: &[u8], g: Gases) {
             g.co2.upper,
         ],
     );
+    nmhc(has_nmhc, g.nmhc);
 }
 
 fn volume(part: i64, e: Ends) {
     filled(b"\npart # volume # #", &[part, e.lower, e.upper]);
 }
 
-fn part_result(part: i64, p: PartResult) {
+fn part_result(part: i64, has_nmhc: bool, p: PartResult) {
     volume(part, p.volume);
-    gases(b"\n mass HC # # CO # # NOx # # CO2 # #", p.mass);
-    gases(b"\n rate HC # # CO # # NOx # # CO2 # #", p.rate);
+    gases(b"\n mass HC # # CO # # NOx # # CO2 # #", has_nmhc, p.mass);
+    gases(b"\n rate HC # # CO # # NOx # # CO2 # #", has_nmhc, p.rate);
 }
 
 fn verdict(v: Verdict) {
@@ -51,18 +59,22 @@ fn verdict(v: Verdict) {
         Verdict::Undecided => {
             text(b" undecided");
         }
+        Verdict::NoVerdict => {}
     }
 }
 
 fn verdicts(v: Verdicts) {
+    text(b"\nverdicts");
     let hc = v.hc;
     let co = v.co;
     let nox = v.nox;
     let co2 = v.co2;
+    let nmhc = v.nmhc;
     verdict(hc);
     verdict(co);
     verdict(nox);
     verdict(co2);
+    verdict(nmhc);
     text(b"\nfuel");
 }
 
@@ -72,11 +84,13 @@ fn ends(e: Ends) {
 
 fn result(r: TestResult) {
     let parts = r.parts;
-    part_result(1, parts.first);
-    part_result(2, parts.second);
-    part_result(3, parts.third);
+    let has_nmhc = r.has_nmhc;
+    part_result(1, has_nmhc, parts.first);
+    part_result(2, has_nmhc, parts.second);
+    part_result(3, has_nmhc, parts.third);
     gases(
-        b"\nweighted HC # # CO # # NOx # # CO2 # #\nverdicts",
+        b"\nweighted HC # # CO # # NOx # # CO2 # #",
+        has_nmhc,
         r.weighted,
     );
     verdicts(r.verdicts);

@@ -1,6 +1,7 @@
 // A bag sheet from the numbers of a case: place 100 x part + field, where the test's own fields are those of part 0.
 use bag::BagSheet;
 use bag::Densities;
+use bag::Efficiencies;
 use bag::Fuel;
 use bag::Limits;
 use bag::Part;
@@ -45,6 +46,7 @@ fn bag_at(n: [u64; 802], part: u32, side: u32) -> Bag {
         co: message_at(n, part, side, 2),
         nox: message_at(n, part, side, 3),
         co2: message_at(n, part, side, 4),
+        cutter: message_at(n, part, side, 5),
     }
 }
 
@@ -66,6 +68,7 @@ fn densities_at(n: [u64; 802], part: u32) -> Densities {
         co: word_at(n, part, 12),
         nox: word_at(n, part, 13),
         co2: word_at(n, part, 14),
+        nmhc: word_at(n, part, 15),
     }
 }
 
@@ -109,6 +112,14 @@ fn limits_in(n: [u64; 802]) -> Limits {
         co: number_at(n, 0, 32),
         nox: number_at(n, 0, 33),
         co2: number_at(n, 0, 34),
+        nmhc: number_at(n, 0, 35),
+    }
+}
+
+fn efficiencies_in(n: [u64; 802]) -> Efficiencies {
+    Efficiencies {
+        methane: word_at(n, 0, 41),
+        ethane: word_at(n, 0, 42),
     }
 }
 
@@ -119,6 +130,7 @@ pub fn sheet_in(n: [u64; 802]) -> BagSheet {
         triple: triple_in(n),
         fuel: fuel_in(n),
         limits: limits_in(n),
+        efficiencies: efficiencies_in(n),
         first: part_at(n, 1),
         second: part_at(n, 2),
         third: part_at(n, 3),

@@ -1,13 +1,15 @@
 -- What the code keeps of the records from one on to the last, what one record more makes of it, and the answer that it comes to.
-use mathlib.Core.Bool.{cond}
+use mathlib.Core.Bool.{Bool, cond}
 use mathlib.Core.List.{List}
 use mathlib.Core.Option.{Option, none, some}
 use Prim.Native.Nat.{ℕ}
 use lib.Dec.{leb}
 use Rattle.refusal.specs.declared.Refusal.the-variants.{LotSize, LotRecord}
-use Rattle.reading.specs.Gas.{Gas, HC, CO, NOx, CO2, among}
+use Rattle.reading.specs.Gas.{Gas, HC, CO, NOx, CO2, NMHC, among}
 use Rattle.record.specs.declared.Record.{Record}
+use Rattle.record.specs.Record.{hasGas}
 use Rattle.tally.specs.declared.Tally.{Tally}
+use Rattle.tally.specs.Entries.{Entry}
 use Rattle.tally.specs.Kept.{tallyOf, noTally, addedTo, gasSheetBy}
 use Rattle.lot.specs.declared.LotSheet.{LotSheet}
 use Rattle.lot.specs.declared.LotAnswer.{LotAnswer}
@@ -19,16 +21,19 @@ use Rattle.lot.specs.Lot.{entryAt, entriesFrom, eachSheet, faulty, first
 
 -- ---- of every gas
 abbrev pub tallyAt : Gas → Tallies → Tally
-tallyAt gas t = among gas (t .hc) (t .co) (t .nox) (t .co2)
+tallyAt gas t = among gas (t .hc) (t .co) (t .nox) (t .co2) (t .nmhc)
 
 unfoldable pub eachTally : (Gas → Tally) → Tallies
-eachTally f = record { hc = f HC; co = f CO; nox = f NOx; co2 = f CO2 }
+eachTally f = record { hc = f HC; co = f CO; nox = f NOx; co2 = f CO2; nmhc = f NMHC }
 
 unfoldable pub talliesFrom : ℕ → List Record → Tallies
 talliesFrom at rs = eachTally (λ gas. tallyOf (entriesFrom gas at rs))
 
+abbrev pub addedIf : Bool → Entry → Tally → Tally
+addedIf has e t = cond has (addedTo e t) t
+
 unfoldable pub withRecord : ℕ → Record → Tallies → Tallies
-withRecord at r t = eachTally (λ gas. addedTo (entryAt gas at r) (tallyAt gas t))
+withRecord at r t = eachTally (λ gas. addedIf (hasGas gas r) (entryAt gas at r) (tallyAt gas t))
 
 -- ---- of the records from index `at` on
 abbrev pub runningOf : Option ℕ → Tallies → Running

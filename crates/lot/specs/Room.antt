@@ -1,9 +1,12 @@
 -- What the machine needs of the numbers of a lot: how large the tallies of at most m records are, and the ends of a record that is not faulty.
+use mathlib.Core.Path.{_≡_}
+use mathlib.Core.Bool.{true}
 use Prim.Native.Nat.{ℕ}
 use Rattle.arith.specs.Fitting.{Sized}
 use Rattle.reading.specs.Gas.{Gas}
-use Rattle.part.specs.Part.{endsAt}
+use Rattle.sides.specs.Gases.{endsAt}
 use Rattle.record.specs.declared.Record.{Record}
+use Rattle.record.specs.Record.{hasGas}
 use Rattle.tally.specs.Entries.{mostEnd}
 use Rattle.tally.specs.Room.{Roomy}
 use Rattle.lot.specs.declared.Tallies.{Tallies}
@@ -19,4 +22,4 @@ RoomyRun m (Counted t) = RoomyAll m t
 RoomyRun m (Faulty index) = Unit {0}
 
 abbrev pub Sound : Record → Type 0
-Sound r = (gas : Gas) → Sized mostEnd (endsAt gas (r .weighted))
+Sound r = (gas : Gas) → hasGas gas r ≡ true → Sized mostEnd (endsAt gas (r .weighted))

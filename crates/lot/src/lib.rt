@@ -1,13 +1,20 @@
 // The records of a lot (02, M-105): what is kept of them, one record more, and the answer that it comes to. A record comes by value: the lent list itself is read
 // by lot_sheet alone.
+use arith::Ends;
 use record::Record;
 use refusal::Refusal;
 use tally::GasSheet;
 use tally::Tally;
 ghost use mathlib.Core.Path.{_≡_};
+ghost use mathlib.Core.Bool.{true};
 ghost use Prim.Native.Nat.{_<_};
+ghost use Rattle.arith.specs.Fitting.{Sized};
+ghost use Rattle.reading.specs.Gas.{NMHC};
+ghost use Rattle.record.specs.Record.{hasGas};
+ghost use Rattle.tally.specs.Entries.{entry, mostEnd};
+ghost use Rattle.tally.specs.Room.{Roomy};
 ghost use Rattle.lot.specs.Lot.{faulty};
-ghost use Rattle.lot.specs.Kept.{nothing, withRecord, joinedTo, recordsRead, sheetBy, finishedBy};
+ghost use Rattle.lot.specs.Kept.{nothing, addedIf, withRecord, joinedTo, recordsRead, sheetBy, finishedBy};
 ghost use Rattle.lot.specs.Room.{Sound, RoomyAll, RoomyRun};
 
 pub struct LotSheet {
@@ -15,6 +22,7 @@ pub struct LotSheet {
     pub co: GasSheet,
     pub nox: GasSheet,
     pub co2: GasSheet,
+    pub nmhc: GasSheet,
 }
 
 pub enum LotAnswer {
@@ -27,6 +35,7 @@ pub struct Tallies {
     pub co: Tally,
     pub nox: Tally,
     pub co2: Tally,
+    pub nmhc: Tally,
 }
 
 // What is kept of the records from one on to the last: their tallies, or the index of the first that is faulty.
@@ -35,14 +44,31 @@ pub enum Running {
     Faulty(u32),
 }
 
-// Refusal 21.
+fn has_nmhc(r: Record) -> bool
+    ensures { λ b. ⌜ b ≡ hasGas NMHC r ⌝ }
+{
+    r.has_nmhc != 0
+}
+
+// Refusal 21. The fifth gas is read only where it is there.
 fn is_faulty(r: Record) -> bool
     ensures { λ b. ⌜ b ≡ faulty r ⌝ }
 {
     let g = r.weighted;
+    let nmhc = has_nmhc(r) & tally::is_faulty_ends(g.nmhc);
     tally::is_faulty_ends(g.hc)
         | (tally::is_faulty_ends(g.co)
-            | (tally::is_faulty_ends(g.nox) | tally::is_faulty_ends(g.co2)))
+            | (tally::is_faulty_ends(g.nox) | (tally::is_faulty_ends(g.co2) | nmhc)))
+}
+
+fn added_if(has: bool, at: u32, ends: Ends, verdict: u32, t: Tally) -> Tally
+    requires { ⌜ (has ≡ true → Sized mostEnd ends) × (Roomy 255 t) ⌝ }
+    ensures { λ n. ⌜ n ≡ addedIf has (entry at ends verdict) t ⌝ }
+{
+    if has {
+        return tally::added(at, ends, verdict, t);
+    }
+    t
 }
 
 fn with_record(at: u32, r: Record, t: Tallies) -> Tallies
@@ -56,6 +82,7 @@ fn with_record(at: u32, r: Record, t: Tallies) -> Tallies
         co: tally::added(at, g.co, v.co, t.co),
         nox: tally::added(at, g.nox, v.nox, t.nox),
         co2: tally::added(at, g.co2, v.co2, t.co2),
+        nmhc: added_if(has_nmhc(r), at, g.nmhc, v.nmhc, t.nmhc),
     }
 }
 
@@ -82,6 +109,7 @@ pub fn no_records() -> Running
         co: tally::no_tally(),
         nox: tally::no_tally(),
         co2: tally::no_tally(),
+        nmhc: tally::no_tally(),
     })
 }
 
@@ -101,6 +129,7 @@ fn sheet_by(t: Tallies) -> LotSheet
         co: tally::gas_sheet_by(t.co),
         nox: tally::gas_sheet_by(t.nox),
         co2: tally::gas_sheet_by(t.co2),
+        nmhc: tally::gas_sheet_by(t.nmhc),
     }
 }
 

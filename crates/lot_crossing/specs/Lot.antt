@@ -23,14 +23,14 @@ unfoldable pub gasOut : GasSheet → LotGas
 gasOut g = withMean g (g .mean)
 
 unfoldable pub sheetOut : LotSheet → LotOutcome
-sheetOut s = record { outcome = outcomeOf Accepted; hc = gasOut (s .hc); co = gasOut (s .co); nox = gasOut (s .nox); co2 = gasOut (s .co2) }
+sheetOut s = record { outcome = outcomeOf Accepted; hc = gasOut (s .hc); co = gasOut (s .co); nox = gasOut (s .nox); co2 = gasOut (s .co2); nmhc = gasOut (s .nmhc) }
 
 -- beside a refusal all figures are 0
 unfoldable pub noGas : LotGas
 noGas = record { passed = 0; failed = 0; undecided = 0; worst = 0; sum = exactly (pos 0); mean = exactly (pos 0) }
 
 unfoldable pub refusedOut : Refusal → LotOutcome
-refusedOut refusal = record { outcome = outcomeOf (judged.Refused refusal); hc = noGas; co = noGas; nox = noGas; co2 = noGas }
+refusedOut refusal = record { outcome = outcomeOf (judged.Refused refusal); hc = noGas; co = noGas; nox = noGas; co2 = noGas; nmhc = noGas }
 
 abbrev pub lotOut : LotAnswer → LotOutcome
 lotOut (Sheet sheet) = sheetOut sheet

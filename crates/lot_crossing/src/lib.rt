@@ -28,6 +28,7 @@ pub struct LotOutcome {
     pub co: LotGas,
     pub nox: LotGas,
     pub co2: LotGas,
+    pub nmhc: LotGas,
 }
 
 fn gas_out(g: GasSheet) -> LotGas
@@ -64,6 +65,7 @@ fn sheet_out(s: LotSheet) -> LotOutcome
         co: gas_out(s.co),
         nox: gas_out(s.nox),
         co2: gas_out(s.co2),
+        nmhc: gas_out(s.nmhc),
     }
 }
 
@@ -89,6 +91,7 @@ fn refused_out(refusal: Refusal) -> LotOutcome
         co: no_gas(),
         nox: no_gas(),
         co2: no_gas(),
+        nmhc: no_gas(),
     }
 }
 

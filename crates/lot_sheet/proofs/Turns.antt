@@ -33,8 +33,9 @@ none = record { lower = pos 0; upper = pos 0 }
 abbrev pub blank : Record
 blank =
     record {
-      weighted = record { hc = none; co = none; nox = none; co2 = none };
-      verdicts = record { hc = 0; co = 0; nox = 0; co2 = 0 };
+      weighted = record { hc = none; co = none; nox = none; co2 = none; nmhc = none };
+      verdicts = record { hc = 0; co = 0; nox = 0; co2 = 0; nmhc = 0 };
+      «has_nmhc» = 0;
     }
 
 -- ---- of the first m records, those from j on

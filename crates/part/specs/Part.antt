@@ -2,22 +2,18 @@
 use mathlib.Core.Bool.{Bool, cond}
 use Prim.Native.Nat.{ℕ}
 use Rattle.arith.specs.declared.Ends.{Ends}
-use Rattle.reading.specs.Gas.{Gas, HC, CO, NOx, CO2, isNOx, among}
+use Rattle.reading.specs.Gas.{isNOx, isNMHC}
 use Rattle.bag.specs.Sheet.{densityAt}
 use Rattle.bag.specs.declared.Part.{Part}
 use Rattle.bag.specs.declared.Triple.{Triple}
 use Rattle.bag.specs.declared.Densities.{Densities}
 use Rattle.stage.specs.Part.{gtr, volumeOf, gOf, qOf, dilutionGood, concentrationOf, gasVolumeOf, massOf, humidityGood, khOf, noxMassOf, rateOf}
-use Rattle.part.specs.declared.Gases.{Gases}
-use Rattle.part.specs.declared.Sides.{Sides}
+use Rattle.cutter.specs.declared.Cutter.{Cutter}
+use Rattle.cutter.specs.NonMethane.{nmhcOf}
+use Rattle.sides.specs.declared.Gases.{Gases}
+use Rattle.sides.specs.declared.Sides.{Sides}
+use Rattle.sides.specs.Gases.{endsAt, each}
 use Rattle.part.specs.declared.PartResult.{PartResult}
-
--- the ends of a gas, and ends for each
-abbrev pub endsAt : Gas → Gases → Ends
-endsAt gas g = among gas (g .hc) (g .co) (g .nox) (g .co2)
-
-unfoldable pub each : (Gas → Ends) → Gases
-each f = record { hc = f HC; co = f CO; nox = f NOx; co2 = f CO2 }
 
 -- "G = 10 CO2 + wc CO + wh HC in bag units"
 abbrev pub gIn : Triple → Gases → Ends
@@ -33,7 +29,14 @@ dryEnough p = humidityGood (p .humidity) (p .saturation) (p .barometer)
 abbrev pub volumeIn : Part → Ends
 volumeIn p = volumeOf gtr (p .pump) (p .revolutions) (p .barometer) (p .depression) (p .temperature)
 
--- from the concentration to the mass: the same stages for every gas
+-- ---- the fifth gas (02, M-108), "worked in bag and in air before the dilution correction"
+unfoldable pub withNmhc : Cutter → Gases → Gases
+withNmhc c read = each (λ gas. cond (isNMHC gas) (nmhcOf c (read .hc) (read .nmhc)) (endsAt gas read))
+
+unfoldable pub stagedOf : Cutter → Sides → Sides
+stagedOf c sides = record { bag = withNmhc c (sides .bag); air = withNmhc c (sides .air) }
+
+-- ---- from the concentration to the mass: the same stages for every gas
 unfoldable pub gasMass : Ends → Ends → Ends → Ends → ℕ → ℕ → Ends
 gasMass volume bag air g q density = massOf (gasVolumeOf volume (concentrationOf bag air g q)) density
 
@@ -47,11 +50,12 @@ correctedFor kh mass = each (λ gas. cond (isNOx gas) (noxMassOf (endsAt gas mas
 unfoldable pub ratesOf : Gases → ℕ → Gases
 ratesOf mass distance = each (λ gas. rateOf (endsAt gas mass) distance)
 
-unfoldable pub massIn : Triple → Part → Sides → Gases
-massIn triple p sides =
+-- G stays on total HC: it is of what was read
+unfoldable pub massIn : Triple → Cutter → Part → Sides → Gases
+massIn triple c p sides =
     correctedFor (khOf (p .humidity) (p .saturation) (p .barometer))
-    (massesOf (volumeIn p) sides (gIn triple (sides .bag)) (qOf (triple .d)) (p .density))
+    (massesOf (volumeIn p) (stagedOf c sides) (gIn triple (sides .bag)) (qOf (triple .d)) (p .density))
 
-unfoldable pub partOf : Triple → Part → Sides → PartResult
-partOf triple p sides =
-    record { volume = volumeIn p; mass = massIn triple p sides; rate = ratesOf (massIn triple p sides) (p .distance) }
+unfoldable pub partOf : Triple → Cutter → Part → Sides → PartResult
+partOf triple c p sides =
+    record { volume = volumeIn p; mass = massIn triple c p sides; rate = ratesOf (massIn triple c p sides) (p .distance) }

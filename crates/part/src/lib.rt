@@ -1,32 +1,18 @@
-// One part of a test (01, Bag sheet and figures): the stages in their order, the same for every gas but for NOx's Kh.
+// One part of a test (01, Bag sheet and figures): the stages in their order, the same for every gas but for NOx's Kh and for the fifth, whose ends come of two readings.
 use arith::Ends;
 use bag::Densities;
 use bag::Part;
 use bag::Triple;
-use reading::Worth;
-use refusal::Refusal;
+use cutter::Cutter;
+use sides::Gases;
+use sides::Sides;
 ghost use mathlib.Core.Path.{_≡_};
-ghost use Rattle.part.specs.Part.{gIn, diluted, dryEnough, gasMass, massesOf, volumeIn, correctedFor, ratesOf, massIn, partOf};
-ghost use Rattle.part.specs.Read.{readGas, sidesFrom, readPart};
+ghost use Rattle.part.specs.Part.{gIn, diluted, dryEnough, withNmhc, stagedOf, gasMass, massesOf, volumeIn, correctedFor, ratesOf, massIn, partOf};
 ghost use Rattle.arith.specs.Fitting.{Sized};
 ghost use Rattle.bag.specs.Sound.{Ranged, RangedTriple};
 ghost use Rattle.stage.specs.Ranges.{largestKh};
-ghost use Rattle.part.specs.Ranges.{ReadingSizes, MassesRanges, GasRanges, DryMassSizes, RatesRanges, PartRanges};
-
-// The ends of each gas: readings, masses or rates.
-#[repr(C)]
-pub struct Gases {
-    pub hc: Ends,
-    pub co: Ends,
-    pub nox: Ends,
-    pub co2: Ends,
-}
-
-// The readings of a part.
-pub struct Sides {
-    pub bag: Gases,
-    pub air: Gases,
-}
+ghost use Rattle.sides.specs.Ranges.{ReadingSizes};
+ghost use Rattle.part.specs.Ranges.{StagedRanges, MassesRanges, GasRanges, DryMassSizes, RatesRanges, PartRanges};
 
 // The volume in ml, masses in micrograms, rates in micrograms/km.
 #[repr(C)]
@@ -34,106 +20,6 @@ pub struct PartResult {
     pub volume: Ends,
     pub mass: Gases,
     pub rate: Gases,
-}
-
-// The ends of a gas, in the bag and in the air.
-pub struct GasSides {
-    pub bag: Ends,
-    pub air: Ends,
-}
-
-pub enum GasRead {
-    Units(GasSides),
-    Refused(Refusal),
-}
-
-pub enum PartRead {
-    Units(Sides),
-    Refused(Refusal),
-}
-
-// The ends of a gas from what its messages are worth, the bag's before the air's, or refusal 12.
-fn read_gas(part: u32, gas: u32, bag: Worth, air: Worth) -> GasRead
-    ensures { λ r. ⌜ r ≡ readGas part gas bag air ⌝ }
-{
-    let Worth::Units(in_bag) = bag else {
-        return GasRead::Refused(Refusal::Reading { part, gas, side: 1 });
-    };
-    let Worth::Units(in_air) = air else {
-        return GasRead::Refused(Refusal::Reading { part, gas, side: 2 });
-    };
-    GasRead::Units(GasSides {
-        bag: in_bag,
-        air: in_air,
-    })
-}
-
-fn sides_from(hc: GasSides, co: GasSides, nox: GasSides, co2: GasSides) -> Sides
-    ensures { λ r. ⌜ r ≡ sidesFrom hc co nox co2 ⌝ }
-{
-    let bag_hc = hc.bag;
-    let bag_co = co.bag;
-    let bag_nox = nox.bag;
-    let bag_co2 = co2.bag;
-    let air_hc = hc.air;
-    let air_co = co.air;
-    let air_nox = nox.air;
-    let air_co2 = co2.air;
-    let bag = Gases {
-        hc: bag_hc,
-        co: bag_co,
-        nox: bag_nox,
-        co2: bag_co2,
-    };
-    let air = Gases {
-        hc: air_hc,
-        co: air_co,
-        nox: air_nox,
-        co2: air_co2,
-    };
-    Sides { bag, air }
-}
-
-// The ends of every gas, in the table's order, or the first refusal. Each message is converted once, and all of them before the first is looked at:
-// ends that were just written and are read at once make the processor wait (docs/DECISIONS.md).
-pub fn read_part(part: u32, p: Part) -> PartRead
-    ensures { λ r. ⌜ r ≡ readPart part p ⌝ }
-{
-    let bag = p.bag;
-    let air = p.air;
-    let bag_hc = bag.hc;
-    let air_hc = air.hc;
-    let bag_co = bag.co;
-    let air_co = air.co;
-    let bag_nox = bag.nox;
-    let air_nox = air.nox;
-    let bag_co2 = bag.co2;
-    let air_co2 = air.co2;
-    let worth_bag_hc = reading::convert(bag_hc);
-    let worth_air_hc = reading::convert(air_hc);
-    let worth_bag_co = reading::convert(bag_co);
-    let worth_air_co = reading::convert(air_co);
-    let worth_bag_nox = reading::convert(bag_nox);
-    let worth_air_nox = reading::convert(air_nox);
-    let worth_bag_co2 = reading::convert(bag_co2);
-    let worth_air_co2 = reading::convert(air_co2);
-    let hc = match read_gas(part, 1, worth_bag_hc, worth_air_hc) {
-        GasRead::Units(hc) => hc,
-        GasRead::Refused(refusal) => return PartRead::Refused(refusal),
-    };
-    let co = match read_gas(part, 2, worth_bag_co, worth_air_co) {
-        GasRead::Units(co) => co,
-        GasRead::Refused(refusal) => return PartRead::Refused(refusal),
-    };
-    let nox = match read_gas(part, 3, worth_bag_nox, worth_air_nox) {
-        GasRead::Units(nox) => nox,
-        GasRead::Refused(refusal) => return PartRead::Refused(refusal),
-    };
-    let co2 = match read_gas(part, 4, worth_bag_co2, worth_air_co2) {
-        GasRead::Units(co2) => co2,
-        GasRead::Refused(refusal) => return PartRead::Refused(refusal),
-    };
-    PartRead::Units(sides_from(hc, co, nox, co2))
 }
 
 pub fn g_in(triple: Triple, bag: Gases) -> Ends
@@ -149,6 +35,35 @@ pub fn is_diluted(triple: Triple, bag: Gases) -> bool
     ensures { λ r. ⌜ r ≡ diluted triple bag ⌝ }
 {
     stage::dilution_good(g_in(triple, bag), stage::q_of(triple.d))
+}
+
+// What the stages take of what was read: the fifth gas in the place of the reading behind the cutter, or nothing where the test has none.
+fn with_nmhc(c: Cutter, read: Gases) -> Gases
+    requires { ⌜ StagedRanges c read ⌝ }
+    ensures { λ r. ⌜ r ≡ withNmhc c read ⌝ }
+{
+    let hc = read.hc;
+    let co = read.co;
+    let nox = read.nox;
+    let co2 = read.co2;
+    let nmhc = cutter::nmhc(c, hc, read.nmhc);
+    Gases {
+        hc,
+        co,
+        nox,
+        co2,
+        nmhc,
+    }
+}
+
+fn staged(c: Cutter, sides: Sides) -> Sides
+    requires { ⌜ (StagedRanges c (sides .bag)) × (StagedRanges c (sides .air)) ⌝ }
+    ensures { λ r. ⌜ r ≡ stagedOf c sides ⌝ }
+{
+    Sides {
+        bag: with_nmhc(c, sides.bag),
+        air: with_nmhc(c, sides.air),
+    }
 }
 
 fn gas_mass(volume: Ends, bag: Ends, air: Ends, g: Ends, q: u32, density: u32) -> Ends
@@ -170,6 +85,7 @@ fn masses(volume: Ends, sides: Sides, g: Ends, q: u32, density: Densities) -> Ga
         co: gas_mass(volume, bag.co, air.co, g, q, density.co),
         nox: gas_mass(volume, bag.nox, air.nox, g, q, density.nox),
         co2: gas_mass(volume, bag.co2, air.co2, g, q, density.co2),
+        nmhc: gas_mass(volume, bag.nmhc, air.nmhc, g, q, density.nmhc),
     }
 }
 
@@ -181,8 +97,15 @@ fn corrected_for(kh: Ends, mass: Gases) -> Gases
     let hc = mass.hc;
     let co = mass.co;
     let co2 = mass.co2;
+    let nmhc = mass.nmhc;
     let nox = stage::nox_mass(mass.nox, kh);
-    Gases { hc, co, nox, co2 }
+    Gases {
+        hc,
+        co,
+        nox,
+        co2,
+        nmhc,
+    }
 }
 
 fn rates(mass: Gases, distance: u32) -> Gases
@@ -194,6 +117,7 @@ fn rates(mass: Gases, distance: u32) -> Gases
         co: stage::rate(mass.co, distance),
         nox: stage::rate(mass.nox, distance),
         co2: stage::rate(mass.co2, distance),
+        nmhc: stage::rate(mass.nmhc, distance),
     }
 }
 
@@ -218,22 +142,22 @@ pub fn is_dry_enough(p: Part) -> bool
     stage::humidity_good(p.humidity, p.saturation, p.barometer)
 }
 
-fn mass_in(triple: Triple, p: Part, sides: Sides) -> Gases
-    requires { ⌜ PartRanges triple p sides ⌝ }
-    ensures { λ r. ⌜ r ≡ massIn triple p sides ⌝ }
+fn mass_in(triple: Triple, c: Cutter, p: Part, sides: Sides) -> Gases
+    requires { ⌜ PartRanges triple c p sides ⌝ }
+    ensures { λ r. ⌜ r ≡ massIn triple c p sides ⌝ }
 {
     let g = g_in(triple, sides.bag);
     let q = stage::q_of(triple.d);
-    let dry = masses(volume_in(p), sides, g, q, p.density);
+    let dry = masses(volume_in(p), staged(c, sides), g, q, p.density);
     let kh = stage::kh(p.humidity, p.saturation, p.barometer);
     corrected_for(kh, dry)
 }
 
-pub fn part_of(triple: Triple, p: Part, sides: Sides) -> PartResult
-    requires { ⌜ PartRanges triple p sides ⌝ }
-    ensures { λ r. ⌜ r ≡ partOf triple p sides ⌝ }
+pub fn part_of(triple: Triple, c: Cutter, p: Part, sides: Sides) -> PartResult
+    requires { ⌜ PartRanges triple c p sides ⌝ }
+    ensures { λ r. ⌜ r ≡ partOf triple c p sides ⌝ }
 {
-    let mass = mass_in(triple, p, sides);
+    let mass = mass_in(triple, c, p, sides);
     PartResult {
         volume: volume_in(p),
         mass,

@@ -1,5 +1,5 @@
 -- 001, paragraph 8, equations 8-2 to 8-15: what the fuel brings to fields 9 to 11 of the bag sheet, in 01's units. The density of the test fuel
--- (D of 8-14 and 8-15) is measured, and so stands open.
+-- (D of 8-14 and 8-15) is measured, and so stands open. 001 has no density of hydrocarbons without methane (02, M-108): 0 stands for it, which field 9 refuses.
 use Prim.Native.Nat.{ℕ}
 use Rattle.preset.specs.declared.Preset.{Preset}
 
@@ -8,7 +8,7 @@ use Rattle.preset.specs.declared.Preset.{Preset}
 abbrev pub presetWith : ℕ → ℕ → ℕ → ℕ → ℕ → Preset
 presetWith hc d k factor density =
     record {
-      density = record { hc = hc; co = 1160000; nox = 1910000; co2 = 1830000 };
+      density = record { hc = hc; co = 1160000; nox = 1910000; co2 = 1830000; nmhc = 0 };
       triple = record { d = d; wc = 10; wh = 10 };
       fuel = record { k = k; hc = factor; co = 429; co2 = 273; density = density };
     }

@@ -1,4 +1,5 @@
-// What a fuel brings to the bag sheet (001, paragraph 8): fields 9 and 10, and field 11 with the density of the test fuel, which is measured.
+// What a fuel brings to the bag sheet (001, paragraph 8): fields 9 and 10, and field 11 with the density of the test fuel, which is measured. 001 has no density of the fifth
+// gas: it stands as 0, which is refused (11), and has to be given.
 use bag::Densities;
 use bag::Fuel;
 use bag::Triple;
@@ -22,6 +23,7 @@ fn preset_with(hc: u32, d: u32, k: u32, factor: u32, density: u32) -> Preset
             co: 1160000,
             nox: 1910000,
             co2: 1830000,
+            nmhc: 0,
         },
         triple: Triple { d, wc: 10, wh: 10 },
         fuel: Fuel {

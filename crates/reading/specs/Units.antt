@@ -1,12 +1,13 @@
 -- What a message of the analyser is worth in units of 1/256 ppm (01, Bag sheet and figures, first paragraph; 02, M-104).
 -- A float is `nan`, `inf s` or `fin s m e`: m · 2ᵉ, with a minus where s is true. `up e / down e` is 2ᵉ (lib.Ieee).
 use Prim.Native.Nat.{ℕ, _*_}
-use mathlib.Core.Bool.{cond}
+use mathlib.Core.Bool.{Bool, true, false, cond}
 use lib.IntN.{ℤ, pos, negℤ}
 use lib.Signed.{leZ, ltZ}
 use lib.Ieee.{Float, nan, inf, fin, up, down}
 use Rattle.arith.specs.declared.Ends.{Ends}
 use Rattle.arith.specs.Rounding.{divDown, divUp}
+use Rattle.arith.specs.Stages.{exactly}
 use Rattle.arith.specs.Fraction.{Fraction, whole, _*ᶠ_}
 use Rattle.reading.specs.declared.Message.{Message}
 use Rattle.reading.specs.declared.Message.the-variants.{Ppm, Percent, OverRange, NotFitted}
@@ -55,3 +56,14 @@ rounded (value q) = cond (ltZ (q .num) (pos 0)) Unusable (upToLimit (outward q))
 -- what a message is worth
 unfoldable pub unitsOf : Message → Worth
 unitsOf message = rounded (exactUnits message)
+
+-- ---- the reading behind the cutter, 02, M-108
+abbrev pub isFitted : Message → Bool
+isFitted (Ppm x) = true
+isFitted (Percent x) = true
+isFitted OverRange = true
+isFitted NotFitted = false
+
+-- "'not fitted' for the cutter reading .. leaves the fifth absent": it is no fault. No figure is made of the 0 that stands for it
+unfoldable pub cutterUnits : Message → Worth
+cutterUnits message = cond (isFitted message) (unitsOf message) (Units (exactly (pos 0)))

@@ -4,7 +4,7 @@ ghost use Prim.Native.Nat.{_^_, _≤_, _<_};
 ghost use lib.IntN.{pos};
 ghost use lib.Ieee.{ofBits, toBits, binary32};
 ghost use Rattle.reading.specs.Pattern.{binaryOf, over, withRest};
-ghost use Rattle.reading.specs.Units.{exactValue, times, outward, upToLimit, rounded, unitsOf};
+ghost use Rattle.reading.specs.Units.{exactValue, times, outward, upToLimit, rounded, unitsOf, isFitted, cutterUnits};
 use arith::Ends;
 
 // What the analyser sends for one gas.
@@ -15,12 +15,13 @@ pub enum Message {
     NotFitted,
 }
 
-// The readings of one bag, or of its dilution air, as received.
+// The readings of one bag, or of its dilution air, as received. The cutter burns all hydrocarbons but methane: its reading is HC's behind it.
 pub struct Bag {
     pub hc: Message,
     pub co: Message,
     pub nox: Message,
     pub co2: Message,
+    pub cutter: Message,
 }
 
 // What a message is worth: its ends in units, where it is usable.
@@ -129,6 +130,28 @@ pub fn convert(message: Message) -> Worth
         Message::Percent(x) => in_units(x, 2560000),
         Message::OverRange => Worth::Unusable,
         Message::NotFitted => Worth::Unusable,
+    }
+}
+
+pub fn is_fitted(message: Message) -> bool
+    ensures { λ r. ⌜ r ≡ isFitted message ⌝ }
+{
+    match message {
+        Message::Ppm(_) => true,
+        Message::Percent(_) => true,
+        Message::OverRange => true,
+        Message::NotFitted => false,
+    }
+}
+
+// A reading behind the cutter may be missing, and is then no fault (02, M-108). No figure is made of the 0 that stands for it.
+pub fn convert_cutter(message: Message) -> Worth
+    ensures { λ r. ⌜ r ≡ cutterUnits message ⌝ }
+{
+    if is_fitted(message) {
+        convert(message)
+    } else {
+        Worth::Units(arith::exactly(0))
     }
 }
 

@@ -1,7 +1,7 @@
--- 01, Refusal numbers, and 02, M-103, for 16 and 17 and M-105 for 18 and 21: the table, row by row. A place is up to three numbers; `none` is the table's "none".
+-- 01, Refusal numbers, and 02, M-103, for 16 and 17, M-105 for 18 and 21 and M-108 for 19: the table, row by row. A place is up to three numbers; `none` is the table's "none".
 use Prim.Native.Nat.{ℕ}
 use Rattle.refusal.specs.declared.Refusal.{Refusal}
-use Rattle.refusal.specs.declared.Refusal.the-variants.{Header, Count, Length, Second, Vehicle, Ratio, PowerToMass, Room, TooClose, Parts, Value, Reading, Dilution, Humidity, PairCounts, ReferenceMass, RotatingOrSpeed, LotSize, LotRecord}
+use Rattle.refusal.specs.declared.Refusal.the-variants.{Header, Count, Length, Second, Vehicle, Ratio, PowerToMass, Room, TooClose, Parts, Value, Reading, Dilution, Humidity, PairCounts, ReferenceMass, RotatingOrSpeed, LotSize, Efficiencies, LotRecord}
 use Rattle.refusal.specs.declared.Place.{Place}
 use Rattle.refusal.specs.declared.Entry.{Entry}
 
@@ -44,6 +44,7 @@ entryOf PairCounts = 15 given none
 entryOf ReferenceMass = 16 given none
 entryOf RotatingOrSpeed = 17 given none
 entryOf LotSize = 18 given none
+entryOf Efficiencies = 19 given none
 entryOf (LotRecord index) = 21 given at index
 
 abbrev pub numberOf : Refusal → ℕ

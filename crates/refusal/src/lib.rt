@@ -1,10 +1,10 @@
-// The table of refusals (01, Refusal numbers; 16 and 17 by 02, M-103, 18 and 21 by M-105): one case for each row, in the table's order. A new row is a line of this enum, of
+// The table of refusals (01, Refusal numbers; 16 and 17 by 02, M-103, 18 and 21 by M-105, 19 by M-108): one case for each row, in the table's order. A new row is a line of this enum, of
 // specs/Table.antt and of `entry_of`, with its line in each of the two lists of that function's proof.
 ghost use mathlib.Core.Path.{_≡_};
 ghost use Rattle.refusal.specs.Table.{_given_, onSide, entryOf, numberOf, placeOf};
 ghost use Rattle.refusal.specs.Judging.{checked};
 
-// Seconds and parts count from 1, the records of a lot from 0. A field has its number in the sheet's listing; the gases are 1 HC, 2 CO, 3 NOx, 4 CO2; the sides 1 bag, 2 air.
+// Seconds and parts count from 1, the records of a lot from 0. A field has its number in the sheet's listing; the gases are 1 HC, 2 CO, 3 NOx, 4 CO2, 5 NMHC; the sides 1 bag, 2 air.
 pub enum Refusal {
     Header,
     Count,
@@ -24,6 +24,7 @@ pub enum Refusal {
     ReferenceMass,
     RotatingOrSpeed,
     LotSize,
+    Efficiencies,
     LotRecord { index: u32 },
 }
 
@@ -73,6 +74,7 @@ pub fn entry_of(refusal: Refusal) -> Entry
         Refusal::ReferenceMass => row(16, 0, 0, 0),
         Refusal::RotatingOrSpeed => row(17, 0, 0, 0),
         Refusal::LotSize => row(18, 0, 0, 0),
+        Refusal::Efficiencies => row(19, 0, 0, 0),
         Refusal::LotRecord { index } => row(21, index, 0, 0),
     }
 }

@@ -71,10 +71,12 @@ pub fn fuel(k: u32, f1: u32, f2: u32, f3: u32, density: u32, hc: Ends, co: Ends,
     divided(scaled(whole(k), carbon), whole(10000 * density))
 }
 
+// A gas that the test does not have has no verdict.
 pub enum Verdict {
     Pass,
     Fail,
     Undecided,
+    NoVerdict,
 }
 
 // How a weighted gas stands to its limit. The limit comes as the sheet has it, unsigned and up to 10^12, and is made signed here once.

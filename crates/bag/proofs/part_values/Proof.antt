@@ -23,6 +23,7 @@ returns c =
     let co = hc .before in
     let nox = co .before in
     let co2 = nox .before in
+    let nmhc = co2 .before in
     simp (
       c .value7 .ensures,
       revolutions .value6 .ensures,
@@ -33,11 +34,12 @@ returns c =
       humidity .value3 .ensures,
       saturation .value2 .ensures,
       distance .value .ensures,
-      hc .density4 .ensures,
-      co .density3 .ensures,
-      nox .density2 .ensures,
-      co2 .density .ensures,
-      toZ-ofZ w32 (co2 .before .args .p .temperature) (omega (arith, told .struct-told)),
+      hc .density5 .ensures,
+      co .density4 .ensures,
+      nox .density3 .ensures,
+      co2 .density2 .ensures,
+      nmhc .density .ensures,
+      toZ-ofZ w32 (nmhc .before .args .p .temperature) (omega (arith, told .struct-told)),
     )
 
 pub part-values-spec : {M : Type 1} → statement M
@@ -46,5 +48,5 @@ part-values-spec =
     (tie.spec
     (λ c κs. tt) (λ c κs. tt) (λ c κs. tt) (λ c κs. tt) (λ c κs. tt)
     (λ c κs. tt) (λ c κs. tt) (λ c κs. tt) (λ c κs. tt) (λ c κs. tt)
-    (λ c κs. tt) (λ c κs. tt) (λ c κs. tt)
+    (λ c κs. tt) (λ c κs. tt) (λ c κs. tt) (λ c κs. tt)
     returns)

@@ -18,19 +18,25 @@ returns c =
     let co-limit = hc-limit .before in
     let nox-limit = co-limit .before in
     let co2-limit = nox-limit .before in
+    let nmhc-limit = co2-limit .before in
+    let methane = nmhc-limit .before in
+    let ethane = methane .before in
     simp (
-      c .value8 .ensures,
-      wc .value7 .ensures,
-      wh .value6 .ensures,
-      k .value5 .ensures,
-      hc .value4 .ensures,
-      co .value3 .ensures,
-      co2 .value2 .ensures,
-      density .value .ensures,
-      hc-limit .limit4 .ensures,
-      co-limit .limit3 .ensures,
-      nox-limit .limit2 .ensures,
-      co2-limit .limit .ensures,
+      c .value10 .ensures,
+      wc .value9 .ensures,
+      wh .value8 .ensures,
+      k .value7 .ensures,
+      hc .value6 .ensures,
+      co .value5 .ensures,
+      co2 .value4 .ensures,
+      density .value3 .ensures,
+      hc-limit .limit5 .ensures,
+      co-limit .limit4 .ensures,
+      nox-limit .limit3 .ensures,
+      co2-limit .limit2 .ensures,
+      nmhc-limit .limit .ensures,
+      methane .value2 .ensures,
+      ethane .value .ensures,
     )
 
 pub test-values-spec : {M : Type 1} → statement M
@@ -40,4 +46,5 @@ test-values-spec =
     (λ c κs. tt) (λ c κs. tt) (λ c κs. tt) (λ c κs. tt)
     (λ c κs. tt) (λ c κs. tt) (λ c κs. tt) (λ c κs. tt)
     (λ c κs. tt) (λ c κs. tt) (λ c κs. tt) (λ c κs. tt)
+    (λ c κs. tt) (λ c κs. tt) (λ c κs. tt)
     returns)

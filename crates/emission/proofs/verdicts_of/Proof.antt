@@ -1,5 +1,5 @@
 -- `emission::verdicts_of` meets its contract. Assumes nothing.
-use Rattle.reading.specs.Gas.{HC, CO, NOx, CO2}
+use Rattle.reading.specs.Gas.{HC, CO, NOx, CO2, NMHC}
 use Rattle.emission.specs.Test.{eachVerdict, verdictsOf}
 use Rattle.emission.proofs.verdicts_of.Statement.{statement}
 use Rattle.emission.proofs.verdicts_of.Tie as tie
@@ -16,4 +16,5 @@ verdicts-of-spec =
     (λ c κs. c .before .pre CO)
     (λ c κs. c .before .before .pre NOx)
     (λ c κs. c .before .before .before .pre CO2)
+    (λ c κs. c .before .before .before .before .pre NMHC)
     returns)

@@ -1,6 +1,6 @@
 -- `emission::weighted_gases` meets its contract. Assumes nothing.
-use Rattle.reading.specs.Gas.{HC, CO, NOx, CO2}
-use Rattle.part.specs.Part.{each}
+use Rattle.reading.specs.Gas.{HC, CO, NOx, CO2, NMHC}
+use Rattle.sides.specs.Gases.{each}
 use Rattle.emission.specs.Test.{weightedGases}
 use Rattle.emission.proofs.weighted_gases.Statement.{statement}
 use Rattle.emission.proofs.weighted_gases.Tie as tie
@@ -17,4 +17,5 @@ weighted-gases-spec =
     (λ c κs. c .before .pre CO)
     (λ c κs. c .before .before .pre NOx)
     (λ c κs. c .before .before .before .pre CO2)
+    (λ c κs. c .before .before .before .before .pre NMHC)
     returns)

@@ -6,7 +6,10 @@ use Rattle.lot.proofs.no_records.Tie as tie
 returns : tie.Need-returns
 unfolding nothing eachTally
 returns c =
-    rw (c .before .before .before .no-tally .ensures, c .before .before .no-tally2 .ensures, c .before .no-tally3 .ensures, c .no-tally4 .ensures)
+    let co2 = c .before in
+    let nox = co2 .before in
+    let co = nox .before in
+    rw (co .before .no-tally .ensures, co .no-tally2 .ensures, nox .no-tally3 .ensures, co2 .no-tally4 .ensures, c .no-tally5 .ensures)
 
 pub no-records-spec : {M : Type 1} → statement M
-no-records-spec = tie.close (tie.spec (λ c κs. tt) (λ c κs. tt) (λ c κs. tt) (λ c κs. tt) returns)
+no-records-spec = tie.close (tie.spec (λ c κs. tt) (λ c κs. tt) (λ c κs. tt) (λ c κs. tt) (λ c κs. tt) returns)

@@ -5,7 +5,12 @@ use Rattle.lot_crossing.proofs.refused_out.Tie as tie
 
 returns : tie.Need-returns
 unfolding refusedOut
-returns c = rw (c .before .before .before .before .outcome-of .ensures, c .before .before .before .no-gas .ensures, c .before .before .no-gas2 .ensures, c .before .no-gas3 .ensures, c .no-gas4 .ensures)
+returns c =
+    let co2 = c .before in
+    let nox = co2 .before in
+    let co = nox .before in
+    let hc = co .before in
+    rw (hc .before .outcome-of .ensures, hc .no-gas .ensures, co .no-gas2 .ensures, nox .no-gas3 .ensures, co2 .no-gas4 .ensures, c .no-gas5 .ensures)
 
 pub refused-out-spec : {M : Type 1} → statement M
-refused-out-spec = tie.close (tie.spec (λ c κs. tt) (λ c κs. tt) (λ c κs. tt) (λ c κs. tt) (λ c κs. tt) returns)
+refused-out-spec = tie.close (tie.spec (λ c κs. tt) (λ c κs. tt) (λ c κs. tt) (λ c κs. tt) (λ c κs. tt) (λ c κs. tt) returns)

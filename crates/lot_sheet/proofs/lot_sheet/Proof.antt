@@ -91,7 +91,7 @@ stayed = (stay-none-slice (0 ∷ []) tt (plain (λ _. T.the-row)) yes, tt)
 -- ---- numbers
 -- the bytes of a record, as the code has them
 abbrev size : ℕ
-size = 80
+size = 104
 
 scaled : (i n : ℕ) → i < n → n * size < 2 ^ 63 → i * size < 2 ^ 64
 scaled i n l g = omega arith

@@ -1,6 +1,7 @@
 -- `part::rates` meets its contract. Assumes nothing.
-use Rattle.reading.specs.Gas.{HC, CO, NOx, CO2}
-use Rattle.part.specs.Part.{each, ratesOf}
+use Rattle.reading.specs.Gas.{HC, CO, NOx, CO2, NMHC}
+use Rattle.sides.specs.Gases.{each}
+use Rattle.part.specs.Part.{ratesOf}
 use Rattle.part.proofs.rates.Statement.{statement}
 use Rattle.part.proofs.rates.Tie as tie
 
@@ -16,4 +17,5 @@ rates-spec =
     (λ c κs. c .before .pre CO)
     (λ c κs. c .before .before .pre NOx)
     (λ c κs. c .before .before .before .pre CO2)
+    (λ c κs. c .before .before .before .before .pre NMHC)
     returns)

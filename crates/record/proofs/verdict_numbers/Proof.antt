@@ -6,7 +6,11 @@ use Rattle.record.proofs.verdict_numbers.Tie as tie
 returns : tie.Need-returns
 unfolding verdictNumbers eachNumber
 returns c =
-    rw (c .before .before .before .verdict-number .ensures, c .before .before .verdict-number2 .ensures, c .before .verdict-number3 .ensures, c .verdict-number4 .ensures)
+    let co2 = c .before in
+    let nox = co2 .before in
+    let co = nox .before in
+    let hc = co .before in
+    rw (hc .verdict-number .ensures, co .verdict-number2 .ensures, nox .verdict-number3 .ensures, co2 .verdict-number4 .ensures, c .verdict-number5 .ensures)
 
 pub verdict-numbers-spec : {M : Type 1} → statement M
-verdict-numbers-spec = tie.close (tie.spec (λ c κs. tt) (λ c κs. tt) (λ c κs. tt) (λ c κs. tt) returns)
+verdict-numbers-spec = tie.close (tie.spec (λ c κs. tt) (λ c κs. tt) (λ c κs. tt) (λ c κs. tt) (λ c κs. tt) returns)

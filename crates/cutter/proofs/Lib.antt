@@ -1,0 +1,2 @@
+pub mod Sizes
+mod Examples

@@ -1,0 +1,2 @@
+pub mod NonMethane
+pub mod Ranges

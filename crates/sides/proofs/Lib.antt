@@ -1,0 +1,4 @@
+pub mod Each
+pub mod Readings
+pub mod Taken
+pub mod Sizes
