@@ -3,6 +3,7 @@
 
     host/shared
     host/python/result.py demo/low_nox.bags
+    host/python/result.py demo/gas.bags
 
 The types are those of include/ylhovesko.h, which has the units and ranges. This is an example of the calls: it reads well-formed sheets only, and of a
 damaged one the core says no more than the number and the place.
@@ -14,10 +15,10 @@ import sys
 
 LIBRARY = pathlib.Path(__file__).resolve().parents[1] / "target" / "libylhovesko.so"
 
-VERSION = 8  # of the header after which the types here are written
+VERSION = 9  # of the header after which the types here are written
 
 UNSIGNED = ctypes.c_uint32
-GASES = ["hc", "co", "nox", "co2"]
+GASES = ["hc", "co", "nox", "co2", "nmhc"]
 
 
 def record(name, **fields):
@@ -31,19 +32,21 @@ def gases(name, kind):
 
 Outcome = record("Outcome", number=UNSIGNED, at=UNSIGNED, within=UNSIGNED, side=UNSIGNED)
 Reading = record("Reading", kind=UNSIGNED, bits=UNSIGNED)
-Bag = gases("Bag", Reading)
+Bag = record("Bag", hc=Reading, co=Reading, nox=Reading, co2=Reading, cutter=Reading)
 Densities = gases("Densities", UNSIGNED)
 Triple = record("Triple", d=UNSIGNED, wc=UNSIGNED, wh=UNSIGNED)
 Fuel = record("Fuel", k=UNSIGNED, hc=UNSIGNED, co=UNSIGNED, co2=UNSIGNED, density=UNSIGNED)
 Limits = gases("Limits", ctypes.c_uint64)
+Efficiencies = record("Efficiencies", methane=UNSIGNED, ethane=UNSIGNED)
 Part = record("Part", pump=UNSIGNED, revolutions=UNSIGNED, barometer=UNSIGNED, depression=UNSIGNED, temperature=ctypes.c_int32,
               humidity=UNSIGNED, saturation=UNSIGNED, distance=UNSIGNED, density=Densities, bag=Bag, air=Bag)
-BagSheet = record("BagSheet", class_number=UNSIGNED, parts=UNSIGNED, triple=Triple, fuel=Fuel, limits=Limits, part=Part * 3)
+BagSheet = record("BagSheet", class_number=UNSIGNED, parts=UNSIGNED, triple=Triple, fuel=Fuel, limits=Limits, efficiencies=Efficiencies,
+                  part=Part * 3)
 Ends = record("Ends", lower=ctypes.c_int64, upper=ctypes.c_int64)
 GasEnds = gases("GasEnds", Ends)
 PartResult = record("PartResult", volume=Ends, mass=GasEnds, rate=GasEnds)
 Verdicts = gases("Verdicts", UNSIGNED)
-TestResult = record("TestResult", outcome=Outcome, part=PartResult * 3, weighted=GasEnds, verdict=Verdicts, fuel=Ends)
+TestResult = record("TestResult", outcome=Outcome, part=PartResult * 3, weighted=GasEnds, verdict=Verdicts, has_nmhc=UNSIGNED, fuel=Ends)
 
 
 def library():
@@ -89,11 +92,23 @@ def part(values):
     return Part(*numbers, filled(Densities, values, "density"), *bags)
 
 
+CUTTER_KEYS = {"limit nmhc", "efficiency methane", "efficiency ethane", "density nmhc", "bag cutter", "air cutter"}
+
+
+def without_cutter(test, parts):
+    """The values with those of a bench without the cutter: the core judges the limit, the efficiencies and the density of NMHC there too."""
+    test = {**test, "limit nmhc": "0", "efficiency methane": "0", "efficiency ethane": "0"}
+    readings = {"bag cutter": "not fitted", "air cutter": "not fitted"}
+    return test, [{**values, **readings, "density nmhc": values["density hc"]} for values in parts]
+
+
 def bag_sheet(text):
     test, *parts = sections(text)
+    if not any(CUTTER_KEYS & values.keys() for values in [test, *parts]):
+        test, parts = without_cutter(test, parts)
     given = [part(values) for values in parts]
     return BagSheet(int(test["class"]), len(given), filled(Triple, test, "triple"), filled(Fuel, test, "fuel"), filled(Limits, test, "limit"),
-                    (Part * 3)(*given))
+                    filled(Efficiencies, test, "efficiency"), (Part * 3)(*given))
 
 
 def figure(name, ends):
@@ -104,11 +119,12 @@ def heading(title):
     return f"{title:<30}{'lower end':>20} {'upper end':>20}"
 
 
-NAMES = {"hc": "HC", "co": "CO", "nox": "NOx", "co2": "CO2"}
+NAMES = {"hc": "HC", "co": "CO", "nox": "NOx", "co2": "CO2", "nmhc": "NMHC"}
 VERDICTS = {1: "pass", 2: "fail", 3: "undecided: the limit lies between the ends"}
 
 
 def printed(name, sheet, result):
+    measured = GASES if result.has_nmhc else GASES[:-1]
     print(f"Result of {name}, class {sheet.class_number}\nat 20 degrees C and 101.325 kPa\n")
     for number in range(sheet.parts):
         told = result.part[number]
@@ -116,13 +132,15 @@ def printed(name, sheet, result):
         print(f"  volume, ml\n{figure('diluted gas', told.volume)}")
         for title, figures in [("mass, micrograms", told.mass), ("rate, micrograms/km", told.rate)]:
             print(f"  {title}")
-            for gas in GASES:
+            for gas in measured:
                 print(figure(NAMES[gas], getattr(figures, gas)))
         print()
     print(f"{heading('Weighted, micrograms/km')} {'limit':>20}  verdict")
-    for gas in GASES:
+    for gas in measured:
         limit, verdict = getattr(sheet.limits, gas), VERDICTS[getattr(result.verdict, gas)]
         print(f"{figure(NAMES[gas], getattr(result.weighted, gas))} {limit:>20,}  {verdict}")
+    if not result.has_nmhc:
+        print(f"{'    NMHC':<30}not measured: the cutter is not fitted")
     print(f"\n{heading('Fuel, microlitres per 100 km')}\n{figure('consumption', result.fuel)}")
 
 

@@ -13,23 +13,25 @@ pub struct Gases<T> {
     pub co: T,
     pub nox: T,
     pub co2: T,
+    /// Hydrocarbons without methane.
+    pub nmhc: T,
 }
 
 impl<T> Gases<T> {
     /// In the paper's order.
-    pub fn each(self) -> [T; 4] {
-        [self.hc, self.co, self.nox, self.co2]
+    pub fn each(self) -> [T; 5] {
+        [self.hc, self.co, self.nox, self.co2, self.nmhc]
     }
 
     /// From the paper's order.
-    pub fn of(each: [T; 4]) -> Gases<T> {
-        let [hc, co, nox, co2] = each;
-        Gases { hc, co, nox, co2 }
+    pub fn of(each: [T; 5]) -> Gases<T> {
+        let [hc, co, nox, co2, nmhc] = each;
+        Gases { hc, co, nox, co2, nmhc }
     }
 }
 
 /// What the analyser sent for one gas: a kind, and the bits of its float. The fields are open, so that a message can be handed on as it came; a
-/// kind that is none of the four counts as not fitted. It enters the figures as two ends, the float's exact value in 1/256 ppm rounded down and up.
+/// kind that is none of the four counts as over range. It enters the figures as two ends, the float's exact value in 1/256 ppm rounded down and up.
 #[repr(C)]
 #[derive(Clone, Copy, Debug, Default, PartialEq, Eq)]
 pub struct Reading {
@@ -50,7 +52,32 @@ impl Reading {
     }
 }
 
-/// A part of the bag sheet: its fields 1 to 9 and its readings. HC is read in carbon equivalent, which is propane times 3.
+/// The readings of a bag, or of its dilution air. HC is read in carbon equivalent, which is propane times 3; `cutter` is HC read behind the non-methane
+/// cutter, likewise. Where it is not fitted in a bag or an air, the test has no NMHC; as left by `default` it is 0 ppm behind one that is fitted.
+#[repr(C)]
+#[derive(Clone, Copy, Debug, Default, PartialEq, Eq)]
+pub struct Bag {
+    pub hc: Reading,
+    pub co: Reading,
+    pub nox: Reading,
+    pub co2: Reading,
+    pub cutter: Reading,
+}
+
+impl Bag {
+    /// In the paper's order.
+    pub fn each(self) -> [Reading; 5] {
+        [self.hc, self.co, self.nox, self.co2, self.cutter]
+    }
+
+    /// From the paper's order.
+    pub fn of(each: [Reading; 5]) -> Bag {
+        let [hc, co, nox, co2, cutter] = each;
+        Bag { hc, co, nox, co2, cutter }
+    }
+}
+
+/// A part of the bag sheet: its fields 1 to 9 and its readings.
 #[repr(C)]
 #[derive(Clone, Copy, Debug, Default, PartialEq, Eq)]
 pub struct Part {
@@ -63,8 +90,8 @@ pub struct Part {
     pub saturation: u32,
     pub distance: u32,
     pub density: Gases<u32>,
-    pub bag: Gases<Reading>,
-    pub air: Gases<Reading>,
+    pub bag: Bag,
+    pub air: Bag,
 }
 
 /// The dilution triple, in tenths.
@@ -87,7 +114,16 @@ pub struct Fuel {
     pub density: u32,
 }
 
-/// The bag sheet of a test. `count` says how many parts are given; the third is used for class 3 alone.
+/// How much of methane and of ethane the non-methane cutter takes away, in thousandths.
+#[repr(C)]
+#[derive(Clone, Copy, Debug, Default, PartialEq, Eq)]
+pub struct Efficiencies {
+    pub methane: u32,
+    pub ethane: u32,
+}
+
+/// The bag sheet of a test. `count` says how many parts are given; the third is used for class 3 alone. Density, limit and efficiencies of the fifth gas
+/// are judged where the test does not have it, too.
 #[repr(C)]
 #[derive(Clone, Copy, Debug, Default, PartialEq, Eq)]
 pub struct Sheet {
@@ -96,6 +132,7 @@ pub struct Sheet {
     pub triple: Triple,
     pub fuel: Fuel,
     pub limits: Gases<u64>,
+    pub efficiencies: Efficiencies,
     pub parts: [Part; 3],
 }
 
@@ -115,15 +152,18 @@ pub enum Verdict {
     Fail,
     /// The limit lies between the ends.
     Undecided,
+    /// The test does not have the gas.
+    NoVerdict,
 }
 
 impl Verdict {
     fn of(number: u32) -> Verdict {
         match number {
+            0 => Verdict::NoVerdict,
             1 => Verdict::Pass,
             2 => Verdict::Fail,
             3 => Verdict::Undecided,
-            other => unreachable!("the core gives verdict {other} of three"),
+            other => unreachable!("the core gives verdict {other} of four"),
         }
     }
 
@@ -133,16 +173,20 @@ impl Verdict {
             Verdict::Pass => 1,
             Verdict::Fail => 2,
             Verdict::Undecided => 3,
+            Verdict::NoVerdict => 0,
         }
     }
 }
 
-/// The result of a test: weighted gases in micrograms/km, the fuel in microlitres per 100 km. A third part that the class does not have is all 0.
+/// The result of a test: weighted gases in micrograms/km, the fuel in microlitres per 100 km. A third part that the class does not have is all 0. Where
+/// the test does not have the fifth gas, its figures are 0 in every part and weighted, and it has no verdict.
 #[derive(Clone, Copy, Debug, PartialEq, Eq)]
 pub struct TestResult {
     pub parts: [PartResult; 3],
     pub weighted: Gases<Ends>,
     pub verdicts: Gases<Verdict>,
+    /// Whether the test has the fifth gas.
+    pub has_nmhc: bool,
     pub fuel: Ends,
 }
 
@@ -160,22 +204,24 @@ pub(crate) struct Figures {
     pub parts: [PartResult; 3],
     pub weighted: Gases<Ends>,
     pub verdicts: Gases<u32>,
+    pub has_nmhc: u32,
     pub fuel: Ends,
 }
 
-/// The full result of a test, or the first of the refusals 10 to 14.
+/// The full result of a test, or the first of the refusals 10 to 14 and 19.
 ///
 /// ```
-/// use ylhovesko::bags::{petrol, result, Gases, Part, Reading, Sheet, Verdict};
+/// use ylhovesko::bags::{petrol, result, Bag, Gases, Part, Reading, Sheet, Verdict};
 /// let fuel = petrol(750);
-/// let air = Gases::of([Reading::ppm(0.0); 4]);
+/// let zero = Reading::ppm(0.0);
+/// let air = Bag { hc: zero, co: zero, nox: zero, co2: zero, cutter: Reading::NOT_FITTED };
 /// let part = Part {
 ///     pump: 1000,
 ///     revolutions: 50_000,
 ///     barometer: 101_325,
 ///     distance: 1000,
-///     density: fuel.density,
-///     bag: Gases { co2: Reading::percent(1.0), ..air },
+///     density: Gases { nmhc: 577_000, ..fuel.density },
+///     bag: Bag { co2: Reading::percent(1.0), ..air },
 ///     air,
 ///     ..Part::default()
 /// };
@@ -190,16 +236,18 @@ pub(crate) struct Figures {
 /// let told = result(sheet).unwrap();
 /// assert_eq!((told.parts[0].volume.lower, told.parts[0].volume.upper), (53_660_992, 53_660_993));
 /// assert_eq!((told.verdicts.hc, told.verdicts.co2), (Verdict::Pass, Verdict::Fail));
+/// assert_eq!((told.has_nmhc, told.verdicts.nmhc), (false, Verdict::NoVerdict));
 /// assert_eq!(result(Sheet { count: 3, ..sheet }).unwrap_err().number, 10);
 /// ```
 pub fn result(sheet: Sheet) -> Result<TestResult, Refusal> {
     agreed();
     let TestOutcome { outcome, figures } = calls::result(sheet);
-    let Figures { parts, weighted, verdicts, fuel } = outcome.beside(figures)?;
-    Ok(TestResult { parts, weighted, verdicts: Gases::of(verdicts.each().map(Verdict::of)), fuel })
+    let Figures { parts, weighted, verdicts, has_nmhc, fuel } = outcome.beside(figures)?;
+    Ok(TestResult { parts, weighted, verdicts: Gases::of(verdicts.each().map(Verdict::of)), has_nmhc: has_nmhc != 0, fuel })
 }
 
-/// What a fuel brings to the bag sheet: the densities of every part, the triple and the fuel sheet.
+/// What a fuel brings to the bag sheet: the densities of every part, the triple and the fuel sheet. The regulation has no density of the fifth gas: it
+/// is 0, which the bag sheet refuses (11), so that the caller has to give it.
 #[repr(C)]
 #[derive(Clone, Copy, Debug, PartialEq, Eq)]
 pub struct Preset {
