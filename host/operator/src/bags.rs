@@ -4,14 +4,22 @@ use crate::field::{Form, Key, Range};
 use crate::files::Given;
 use crate::refusals::{self, named, Found, GASES};
 use crate::sheet::{Section, Sheet};
-use ylhovesko::bags::{result, Fuel, Gases, Part, Sheet as BagSheet, TestResult, Triple};
+use std::iter::once;
+use ylhovesko::bags::{result, Bag, Efficiencies, Fuel, Gases, Part, Reading, Sheet as BagSheet, TestResult, Triple};
 use ylhovesko::Refusal;
 
 /// The first word of its file.
 pub const KIND: &str = "bags";
 
 /// As a sheet's keys name them, in the paper's order.
-pub const GAS_KEYS: [&str; 4] = ["hc", "co", "nox", "co2"];
+pub const GAS_KEYS: [&str; 5] = ["hc", "co", "nox", "co2", "nmhc"];
+
+/// As the keys of a bag's readings name them. That of NMHC is HC read behind the cutter.
+const READING_KEYS: [&str; 5] = ["hc", "co", "nox", "co2", CUTTER];
+const CUTTER: &str = "cutter";
+
+/// What the cutter brings to a sheet: one of them stands for all.
+const CUTTER_KEYS: [&str; 6] = ["limit nmhc", "efficiency methane", "efficiency ethane", "density nmhc", "bag cutter", "air cutter"];
 
 /// The bag, and its dilution air.
 const SIDES: [&str; 2] = ["bag", "air"];
@@ -39,33 +47,41 @@ const TRIPLE: [(&str, Range); 3] = [
     ("triple wc", Range::of(0, 20, "in tenths")),
     ("triple wh", Range::of(0, 20, "in tenths")),
 ];
-const CARBON: Range = Range::of(0, 1_000, "in 1/1,000");
+const THOUSANDTHS: Range = Range::of(0, 1_000, "in 1/1,000");
 /// Field 11.
 const FUEL: [(&str, Range); 5] = [
     ("fuel k", Range::of(1, 1_500, "in 1/10,000")),
-    ("fuel hc", CARBON),
-    ("fuel co", CARBON),
-    ("fuel co2", CARBON),
+    ("fuel hc", THOUSANDTHS),
+    ("fuel co", THOUSANDTHS),
+    ("fuel co2", THOUSANDTHS),
     ("fuel density", Range::of(600, 1_000, "g/l")),
 ];
 /// Field 12, for each gas.
 const LIMIT: Range = Range::of(0, 1_000_000_000_000, "micrograms/km");
+/// Field 13.
+const EFFICIENCIES: [(&str, Range); 2] = [("efficiency methane", THOUSANDTHS), ("efficiency ethane", THOUSANDTHS)];
 
 fn whole(fields: &[(&str, Range)]) -> Vec<Key> {
     fields.iter().map(|(name, range)| Key::whole(name, *range)).collect()
 }
 
-fn of_each_gas(word: &str, form: Form) -> Vec<Key> {
-    GAS_KEYS.map(|gas| Key::needed(&format!("{word} {gas}"), form)).into()
+fn of_each_gas(word: &str, range: Range) -> Vec<Key> {
+    GAS_KEYS.map(|gas| Key::whole(&format!("{word} {gas}"), range)).into()
+}
+
+fn reading_key(side: &str, gas: &str) -> Key {
+    let form = if gas == CUTTER { Form::CutterReading } else { Form::Reading };
+    Key::needed(&format!("{side} {gas}"), form)
 }
 
 /// The keys of a field of refusal 11.
 fn keys_of(field: u32) -> Vec<Key> {
     match field {
-        9 => of_each_gas("density", Form::Whole(DENSITY)),
+        9 => of_each_gas("density", DENSITY),
         10 => whole(&TRIPLE),
         11 => whole(&FUEL),
-        12 => of_each_gas("limit", Form::Whole(LIMIT)),
+        12 => of_each_gas("limit", LIMIT),
+        13 => whole(&EFFICIENCIES),
         _ => PART_FIELDS.get((field as usize).wrapping_sub(1)).map_or(Vec::new(), |only| whole(&[*only])),
     }
 }
@@ -75,12 +91,22 @@ fn class_key() -> Key {
 }
 
 fn test_keys() -> Vec<Key> {
-    [Key::needed("sheet", Form::Kind), class_key()].into_iter().chain((10..=12).flat_map(keys_of)).collect()
+    [Key::needed("sheet", Form::Kind), class_key()].into_iter().chain((10..=13).flat_map(keys_of)).collect()
 }
 
 fn part_keys() -> Vec<Key> {
-    let readings = SIDES.into_iter().flat_map(|side| of_each_gas(side, Form::Reading));
+    let readings = SIDES.into_iter().flat_map(|side| READING_KEYS.map(|gas| reading_key(side, gas)));
     (1..=9).flat_map(keys_of).chain(readings).collect()
+}
+
+/// Whether the sheet is of a bench with the cutter: whether it names one of the cutter's keys, wherever that stands.
+fn has_cutter(sheet: &Sheet) -> bool {
+    once(&sheet.head).chain(&sheet.sections).any(|section| CUTTER_KEYS.iter().any(|key| section.names(key)))
+}
+
+/// The keys, of which a sheet of a bench without the cutter need not have the cutter's.
+fn with_needs(keys: Vec<Key>, cutter: bool) -> Vec<Key> {
+    keys.into_iter().map(|key| Key { needed: cutter || !CUTTER_KEYS.contains(&key.name.as_str()), ..key }).collect()
 }
 
 fn of_gases<T>(word: &str, value: impl Fn(&str) -> T) -> Gases<T> {
@@ -90,22 +116,41 @@ fn of_gases<T>(word: &str, value: impl Fn(&str) -> T) -> Gases<T> {
 /// The bag sheet for the core to judge, and the sheet with notes on what in it is not of a bag sheet.
 pub fn bag_sheet_of(sheet: Sheet) -> (BagSheet, Sheet) {
     let mut sheet = sheet.of_kind(KIND);
+    let cutter = has_cutter(&sheet);
     sheet.note_sections(&PARTS);
-    sheet.note_keys(&test_keys(), &part_keys());
+    sheet.note_keys(&with_needs(test_keys(), cutter), &with_needs(part_keys(), cutter));
+    let bags = as_written(&sheet);
+    (if cutter { bags } else { without_cutter(bags) }, sheet)
+}
+
+fn as_written(sheet: &Sheet) -> BagSheet {
     let head = &sheet.head;
     let mut parts = [Part::default(); 3];
     for (part, section) in parts.iter_mut().zip(&sheet.sections) {
         *part = part_of(section);
     }
-    let bags = BagSheet {
+    BagSheet {
         class: head.unsigned("class"),
         count: count_of(&sheet.sections),
         triple: Triple { d: head.unsigned("triple d"), wc: head.unsigned("triple wc"), wh: head.unsigned("triple wh") },
         fuel: fuel_of(head),
         limits: of_gases("limit", |key| head.limit(key)),
+        efficiencies: Efficiencies { methane: head.unsigned("efficiency methane"), ethane: head.unsigned("efficiency ethane") },
         parts,
-    };
-    (bags, sheet)
+    }
+}
+
+/// The sheet of a bench without the cutter, which has no NMHC. The core judges the values of NMHC all the same, so that they are ones that it takes; its
+/// density is that of HC, which is judged as it is written.
+fn without_cutter(mut bags: BagSheet) -> BagSheet {
+    bags.limits.nmhc = 0;
+    bags.efficiencies = Efficiencies::default();
+    for part in &mut bags.parts {
+        part.density.nmhc = part.density.hc;
+        part.bag.cutter = Reading::NOT_FITTED;
+        part.air.cutter = Reading::NOT_FITTED;
+    }
+    bags
 }
 
 /// How many parts there are; 0, which no class has, where they are not numbered 1, 2, 3 in this order, so that none is taken for another.
@@ -135,9 +180,13 @@ fn part_of(section: &Section) -> Part {
         saturation: section.unsigned("saturation"),
         distance: section.unsigned("distance"),
         density: of_gases("density", |key| section.unsigned(key)),
-        bag: of_gases("bag", |key| section.reading(key)),
-        air: of_gases("air", |key| section.reading(key)),
+        bag: readings_of(section, "bag"),
+        air: readings_of(section, "air"),
     }
+}
+
+fn readings_of(section: &Section, side: &str) -> Bag {
+    Bag::of(READING_KEYS.map(|gas| section.reading(&reading_key(side, gas).name)))
 }
 
 /// The result of a bag sheet among other files; or its refusal in words, with its file.
@@ -155,10 +204,11 @@ pub fn found(sheet: &Sheet, refusal: Refusal) -> Found {
         10 => Found { place: String::new(), value: class_and_parts(sheet) },
         11 => found_field(section, place, within),
         12 => {
-            let key = Key::needed(&format!("{} {}", named(&SIDES, side), named(&GAS_KEYS, within)), Form::Reading);
+            let key = reading_key(named(&SIDES, side), named(&READING_KEYS, within));
             let place = format!("{place}, {}, {}", named(&GASES, within), named(&["bag", "dilution air"], side));
             Found { place, value: section.told_with_range(&key) }
         }
+        19 => Found { place: String::new(), value: both_efficiencies(&sheet.head) },
         _ => Found { place, value: String::new() },
     }
 }
@@ -168,6 +218,11 @@ fn class_and_parts(sheet: &Sheet) -> String {
     let count = sheet.sections.len();
     let parts = if count_of(&sheet.sections) as usize == count { count.to_string() } else { "not 1, 2, 3 in this order".to_string() };
     format!("class {class}, parts {parts}; 1 or 2 with 2 parts, or 3 with 3")
+}
+
+fn both_efficiencies(head: &Section) -> String {
+    let [methane, ethane] = EFFICIENCIES.map(|(name, range)| head.told(&Key::whole(name, range)));
+    format!("methane {methane}, ethane {ethane}; ethane at least methane + 500 in 1/1,000")
 }
 
 /// `part 1, field 5, temperature: 1,501; -400 to 1,500 in 0.1 degree C`. Of several numbers of a field it is the first out of its range.

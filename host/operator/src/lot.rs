@@ -5,7 +5,7 @@ use crate::field::Range;
 use crate::files::{self, Tested};
 use crate::machine::{self, Machine};
 use crate::numbers::grouped;
-use crate::refusals::{self, Found, GASES};
+use crate::refusals::{self, measured, Found, GASES, NMHC};
 use crate::result_sheet::{heading, line, word, Weighted};
 use crate::{Failure, Told};
 use std::ffi::OsString;
@@ -72,7 +72,8 @@ fn found(machines: &[Machine], refusal: Refusal) -> Found {
 fn found_gas(machine: &Machine, index: u32) -> Found {
     let in_order = |ends: Ends| END.has(ends.lower.into()) && END.has(ends.upper.into()) && ends.lower <= ends.upper;
     let is_taken = |gas: &Option<Weighted>| gas.is_some_and(|gas| in_order(gas.ends));
-    let Some((name, gas)) = GASES.iter().zip(machine.weighted).find(|(_, gas)| !is_taken(gas)) else {
+    let mut gases = measured(machine.weighted.has_nmhc).iter().zip(machine.weighted.each);
+    let Some((name, gas)) = gases.find(|(_, gas)| !is_taken(gas)) else {
         return Found { place: format!("index {index}"), value: String::new() };
     };
     let told = |Ends { lower, upper }| format!("lower end {}, upper end {}", grouped(lower.into()), grouped(upper.into()));
@@ -80,39 +81,46 @@ fn found_gas(machine: &Machine, index: u32) -> Found {
     Found { place: format!("index {index}, {name}"), value: format!("{value}; {END}, the lower end at most the upper one") }
 }
 
-fn text(machines: &[Machine], gases: &[GasSheet; 4]) -> String {
+fn text(machines: &[Machine], gases: &[GasSheet; 5]) -> String {
     let count = machines.len();
     let counted = if count == 1 { "machine" } else { "machines" };
     let tables: String = (0..GASES.len()).map(|gas| format!("\n{}", table(machines, gas, &gases[gas]))).collect();
     format!("Lot of {count} {counted}\n\n{}{tables}", list(machines))
 }
 
-fn columns(index: &str, verdicts: [&str; 4], name: &str) -> String {
-    let [hc, co, nox, co2] = verdicts;
-    format!("{index:>6}  {hc:<9}  {co:<9}  {nox:<9}  {co2:<9}  {name}\n")
+fn columns(index: &str, cells: &[&str], name: &str) -> String {
+    let cells: String = cells.iter().map(|cell| format!("  {cell:<9}")).collect();
+    format!("{index:>6}{cells}  {name}\n")
 }
 
-/// Every machine with its index, by which the core names it, and its verdicts.
+/// Every machine with its index, by which the core names it, and its verdicts. NMHC has a column where a machine has it.
 fn list(machines: &[Machine]) -> String {
-    let mut lines = columns("index", GASES, "file");
+    let gases = measured(machines.iter().any(|machine| machine.weighted.has_nmhc));
+    let mut lines = columns("index", gases, "file");
     for (index, machine) in machines.iter().enumerate() {
-        let verdicts = machine.weighted.map(|gas| gas.map_or("", |gas| word(gas.verdict)));
-        lines += &columns(&index.to_string(), verdicts, &files::name(&machine.path));
+        let verdicts = machine.weighted.each.map(|gas| gas.map_or("-", |gas| word(gas.verdict)));
+        lines += &columns(&index.to_string(), &verdicts[..gases.len()], &files::name(&machine.path));
     }
     lines
 }
 
-/// One gas over all machines.
+/// The number of machines that have the gas.
+fn counted(sheet: &GasSheet) -> u32 {
+    sheet.passed + sheet.failed + sheet.undecided
+}
+
+/// One gas over all machines that have it; each has all but NMHC.
 fn table(machines: &[Machine], gas: usize, sheet: &GasSheet) -> String {
     let GasSheet { passed, failed, undecided, sum, mean } = sheet;
-    let counts = format!("{}: passed {passed}, failed {failed}, undecided {undecided}", GASES[gas]);
-    let mut lines = format!("{counts}\n{}\n{}\n", heading("  weighted, micrograms/km"), line("sum", *sum));
-    if let Some(Mean { ends, worst }) = mean {
-        let machine = &machines[*worst];
-        let of_worst = line(&format!("worst, index {worst}"), machine.ends()[gas]);
-        lines += &format!("{}\n{of_worst}  {}\n", line("mean", *ends), files::name(&machine.path));
-    }
-    lines
+    let name = GASES[gas];
+    let Some(Mean { ends, worst }) = mean else { return format!("{name}: not measured on any machine\n") };
+    let of = if name == NMHC { format!(", measured on {} of {} machines", counted(sheet), machines.len()) } else { String::new() };
+    let counts = format!("{name}{of}: passed {passed}, failed {failed}, undecided {undecided}");
+    let heading = heading("  weighted, micrograms/km");
+    let machine = &machines[*worst];
+    let of_worst = line(&format!("worst, index {worst}"), machine.ends()[gas]);
+    let lines = [counts, heading, line("sum", *sum), line("mean", *ends), format!("{of_worst}  {}", files::name(&machine.path))];
+    lines.map(|line| line + "\n").concat()
 }
 
 /// A text as a cell of comma-separated values (RFC 4180): in quotes where it has what would end a cell, with each quote in it twice.
@@ -129,15 +137,17 @@ fn cells_of(Ends { lower, upper }: Ends) -> String {
 
 fn csv_line(machines: &[Machine], gas: usize, sheet: &GasSheet) -> String {
     let GasSheet { passed, failed, undecided, sum, mean } = sheet;
-    let with_mean = mean.map_or(",,,,,".to_string(), |Mean { ends, worst }| {
+    // a gas that no machine has is counted, and has no figure
+    let figures = mean.map_or(",".repeat(7), |Mean { ends, worst }| {
         let machine = &machines[worst];
-        format!("{},{worst},{},{}", cells_of(ends), cells_of(machine.ends()[gas]), cell(&files::name(&machine.path)))
+        let of_worst = format!("{},{}", cells_of(machine.ends()[gas]), cell(&files::name(&machine.path)));
+        format!("{},{},{worst},{of_worst}", cells_of(*sum), cells_of(ends))
     });
-    format!("{},{},{passed},{failed},{undecided},{},{with_mean}\n", GASES[gas], machines.len(), cells_of(*sum))
+    format!("{},{},{passed},{failed},{undecided},{figures}\n", GASES[gas], counted(sheet))
 }
 
 /// The lot sheet in comma-separated values, a line a gas.
-fn csv_of(machines: &[Machine], gases: &[GasSheet; 4]) -> String {
+fn csv_of(machines: &[Machine], gases: &[GasSheet; 5]) -> String {
     let [sum, mean, worst] =
         ["sum", "mean", "worst"].map(|of| format!("lower end of {of} in micrograms/km,upper end of {of} in micrograms/km"));
     let lines: String = (0..GASES.len()).map(|gas| csv_line(machines, gas, &gases[gas])).collect();

@@ -2,20 +2,18 @@
 
 use crate::files::{self, Tested};
 use crate::numbers::grouped;
-use crate::result_sheet::{weighted_of, Weighted};
+use crate::result_sheet::{weighted_of, WeightedGases};
 use crate::{bags, lines};
 use std::collections::HashSet;
 use std::path::PathBuf;
-use ylhovesko::bags::{Ends, Gases};
+use ylhovesko::bags::{Ends, Gases, Verdict};
 use ylhovesko::lot::Record;
 
 /// No result has these ends: the lower one lies above the upper one.
 const NO_ENDS: Ends = Ends { lower: 1, upper: 0 };
-/// No verdict has this number.
-const NO_VERDICT: u32 = 0;
 
 /// What machines of one type have in common, by the keys of a bag sheet.
-const TYPE_KEYS: [&str; 5] = ["class", "limit hc", "limit co", "limit nox", "limit co2"];
+const TYPE_KEYS: [&str; 6] = ["class", "limit hc", "limit co", "limit nox", "limit co2", "limit nmhc"];
 
 /// For each of them the first machine of a lot that has a value, and the value.
 type Firsts<'a> = [Option<(&'a Machine, u64)>; TYPE_KEYS.len()];
@@ -24,8 +22,7 @@ pub struct Machine {
     pub path: PathBuf,
     /// A stored result does not say it.
     class: Option<u32>,
-    /// In the paper's order. A gas that a stored result does not give is none.
-    pub weighted: [Option<Weighted>; 4],
+    pub weighted: WeightedGases,
 }
 
 impl Machine {
@@ -33,7 +30,7 @@ impl Machine {
     pub fn of(tested: &Tested) -> Result<Machine, String> {
         match tested {
             Tested::Bags(bags) => {
-                let weighted = weighted_of(bags.value.limits, &bags::result_of(bags)?).map(Some);
+                let weighted = weighted_of(bags.value.limits, &bags::result_of(bags)?);
                 Ok(Machine { path: bags.path.clone(), class: Some(bags.value.class), weighted })
             }
             Tested::Stored(stored) => Ok(Machine { path: stored.path.clone(), class: None, weighted: stored.weighted }),
@@ -41,20 +38,20 @@ impl Machine {
     }
 
     /// The ends of each gas, in the paper's order; of one that is none, ends that the core refuses.
-    pub fn ends(&self) -> [Ends; 4] {
-        self.weighted.map(|gas| gas.map_or(NO_ENDS, |gas| gas.ends))
+    pub fn ends(&self) -> [Ends; 5] {
+        self.weighted.each.map(|gas| gas.map_or(NO_ENDS, |gas| gas.ends))
     }
 
-    /// What the core reads of it.
+    /// What the core reads of it: of NMHC, where the test does not have it, no more than that.
     pub fn record(&self) -> Record {
-        let verdicts = self.weighted.map(|gas| gas.map_or(NO_VERDICT, |gas| gas.verdict.number()));
-        Record { weighted: Gases::of(self.ends()), verdicts: Gases::of(verdicts) }
+        let verdicts = self.weighted.each.map(|gas| gas.map_or(Verdict::NoVerdict, |gas| gas.verdict).number());
+        Record { weighted: Gases::of(self.ends()), verdicts: Gases::of(verdicts), has_nmhc: self.weighted.has_nmhc.into() }
     }
 
     /// The values of [`TYPE_KEYS`], where its file has them.
     fn type_values(&self) -> [Option<u64>; TYPE_KEYS.len()] {
-        let [hc, co, nox, co2] = self.weighted.map(|gas| gas.map(|gas| gas.limit));
-        [self.class.map(u64::from), hc, co, nox, co2]
+        let [hc, co, nox, co2, nmhc] = self.weighted.each.map(|gas| gas.map(|gas| gas.limit));
+        [self.class.map(u64::from), hc, co, nox, co2, nmhc]
     }
 
     /// A note where such a value is not that of the first machine.

@@ -35,7 +35,15 @@ fn lines(name: &str, preset: Preset) -> String {
     }
     text += &format!("# {name}: for each part\n");
     for (gas, value) in GAS_KEYS.iter().zip(density.each()) {
-        text += &format!("density {gas} = {value}\n");
+        text += &density_line(gas, value);
     }
     text
+}
+
+/// A comment where the regulation has no density, which is 0 then: a sheet of a bench without the cutter needs none of NMHC.
+fn density_line(gas: &str, value: u32) -> String {
+    if value == 0 {
+        return format!("# density {gas} is not in the regulation: where the cutter is fitted it has to be given too\n");
+    }
+    format!("density {gas} = {value}\n")
 }

@@ -2,11 +2,20 @@
 
 use ylhovesko::Refusal;
 
+/// Hydrocarbons without methane, which a test has where the cutter is fitted.
+pub const NMHC: &str = "NMHC";
+
 /// In the paper's order.
-pub const GASES: [&str; 4] = ["HC", "CO", "NOx", "CO2"];
+pub const GASES: [&str; 5] = ["HC", "CO", "NOx", "CO2", NMHC];
+
+/// The gases of a test that has NMHC or has it not.
+pub fn measured(has_nmhc: bool) -> &'static [&'static str] {
+    let count = if has_nmhc { GASES.len() } else { GASES.len() - 1 };
+    &GASES[..count]
+}
 
 /// "Given when", row by row. The numbers that are left out are given to nothing yet.
-const ROWS: [(u32, &str); 19] = [
+const ROWS: [(u32, &str); 20] = [
     (1, "under 8 bytes, mark, zero byte or version wrong"),
     (2, "count not 1 to 2,000"),
     (3, "length not 8 + 4 x count"),
@@ -25,6 +34,7 @@ const ROWS: [(u32, &str); 19] = [
     (16, "reference mass outside the table"),
     (17, "rotating mass or speed outside"),
     (18, "more than 256 records in a lot"),
+    (19, "ethane efficiency under methane efficiency plus 500 thousandths"),
     (21, "lower end above upper end, or an end beyond 10^13 micrograms/km"),
 ];
 

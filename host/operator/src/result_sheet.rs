@@ -1,7 +1,7 @@
 //! The result of a test, printed. Every figure has two ends, and the exact one lies between them or at one of them.
 
 use crate::numbers::grouped;
-use crate::refusals::GASES;
+use crate::refusals::{measured, GASES};
 use ylhovesko::bags::{Ends, Gases, PartResult, Sheet, TestResult, Verdict};
 
 /// The state to which the core's volumes are brought, and to which a sheet's densities belong. The paper's formula is of 0 degrees, so that its volumes
@@ -22,10 +22,19 @@ pub struct Weighted {
     pub verdict: Verdict,
 }
 
-/// The weighted gases of a test, in the paper's order.
-pub fn weighted_of(limits: Gases<u64>, result: &TestResult) -> [Weighted; 4] {
+/// The weighted gases of a test.
+#[derive(Clone, Copy)]
+pub struct WeightedGases {
+    /// In the paper's order. A gas that the test does not have is none, and so is one that a stored result does not give.
+    pub each: [Option<Weighted>; 5],
+    pub has_nmhc: bool,
+}
+
+pub fn weighted_of(limits: Gases<u64>, result: &TestResult) -> WeightedGases {
     let (ends, limits, verdicts) = (result.weighted.each(), limits.each(), result.verdicts.each());
-    std::array::from_fn(|gas| Weighted { ends: ends[gas], limit: limits[gas], verdict: verdicts[gas] })
+    let of = |gas: usize| Weighted { ends: ends[gas], limit: limits[gas], verdict: verdicts[gas] };
+    let gases = measured(result.has_nmhc);
+    WeightedGases { each: std::array::from_fn(|gas| gases.get(gas).map(|_| of(gas))), has_nmhc: result.has_nmhc }
 }
 
 fn both(ends: Ends) -> String {
@@ -37,21 +46,26 @@ pub fn heading(title: &str) -> String {
     format!("{title:<30}{:>20} {:>20}", "lower end", "upper end")
 }
 
-/// A figure of such a table.
-pub fn line(name: &str, ends: Ends) -> String {
-    format!("{:<30}{}", format!("    {name}"), both(ends))
+/// A line of such a table: a name, and what is said of it.
+fn said(name: &str, words: &str) -> String {
+    format!("{:<30}{words}", format!("    {name}"))
 }
 
-fn gas_lines(title: &str, figures: Gases<Ends>) -> String {
-    let lines = GASES.iter().zip(figures.each()).map(|(gas, ends)| line(gas, ends) + "\n");
+/// A figure of such a table.
+pub fn line(name: &str, ends: Ends) -> String {
+    said(name, &both(ends))
+}
+
+fn gas_lines(title: &str, gases: &[&str], figures: Gases<Ends>) -> String {
+    let lines = gases.iter().zip(figures.each()).map(|(gas, ends)| line(gas, ends) + "\n");
     format!("  {title}\n{}", lines.collect::<String>())
 }
 
-fn part_lines(number: usize, part: PartResult) -> String {
+fn part_lines(number: usize, gases: &[&str], part: PartResult) -> String {
     let heading = heading(&format!("Part {number}"));
     let volume = line("diluted gas", part.volume);
-    let mass = gas_lines("mass, micrograms", part.mass);
-    let rate = gas_lines("rate, micrograms/km", part.rate);
+    let mass = gas_lines("mass, micrograms", gases, part.mass);
+    let rate = gas_lines("rate, micrograms/km", gases, part.rate);
     format!("{heading}\n  volume, ml\n{volume}\n{mass}{rate}\n")
 }
 
@@ -60,10 +74,11 @@ pub fn word(verdict: Verdict) -> &'static str {
         Verdict::Pass => "pass",
         Verdict::Fail => "fail",
         Verdict::Undecided => "undecided",
+        Verdict::NoVerdict => "not measured",
     }
 }
 
-/// The verdict that has this word.
+/// The verdict on a figure that has this word.
 pub fn verdict_of(written: &str) -> Option<Verdict> {
     [Verdict::Pass, Verdict::Fail, Verdict::Undecided].into_iter().find(|verdict| word(*verdict) == written)
 }
@@ -75,10 +90,15 @@ fn told(verdict: Verdict) -> String {
 
 fn weighted_lines(limits: Gases<u64>, result: &TestResult) -> String {
     let mut lines = format!("{} {:>20}  verdict\n", heading("Weighted, micrograms/km"), "limit");
-    for (gas, Weighted { ends, limit, verdict }) in GASES.iter().zip(weighted_of(limits, result)) {
-        lines += &format!("{} {:>20}  {}\n", line(gas, ends), grouped(limit.into()), told(verdict));
-    }
+    lines.extend(GASES.iter().zip(weighted_of(limits, result).each).map(|(gas, weighted)| weighted_line(gas, weighted) + "\n"));
     lines
+}
+
+fn weighted_line(gas: &str, weighted: Option<Weighted>) -> String {
+    let Some(Weighted { ends, limit, verdict }) = weighted else {
+        return said(gas, &format!("{}: the cutter is not fitted", word(Verdict::NoVerdict)));
+    };
+    format!("{} {:>20}  {}", line(gas, ends), grouped(limit.into()), told(verdict))
 }
 
 /// The figures of the parts that the class has.
@@ -88,7 +108,8 @@ fn given_parts<'a>(sheet: &Sheet, result: &'a TestResult) -> impl Iterator<Item 
 
 /// The whole sheet, under the name of the bag sheet's file.
 pub fn text(name: &str, sheet: &Sheet, result: &TestResult) -> String {
-    let parts: String = (1..).zip(given_parts(sheet, result)).map(|(number, part)| part_lines(number, *part)).collect();
+    let gases = measured(result.has_nmhc);
+    let parts: String = (1..).zip(given_parts(sheet, result)).map(|(number, part)| part_lines(number, gases, *part)).collect();
     let weighted = weighted_lines(sheet.limits, result);
     let fuel = format!("{}\n{}\n", heading("Fuel, microlitres per 100 km"), line("consumption", result.fuel));
     format!("Result of {name}, class {}\n{REFERENCE}\n\n{parts}{weighted}\n{fuel}", sheet.class)
@@ -99,22 +120,33 @@ fn csv_line(part: &str, figure: &str, gas: &str, ends: Ends, judged: &str) -> St
     format!("{part},{figure},{gas},{},{},{judged}\n", ends.lower, ends.upper)
 }
 
-fn csv_of_part(number: usize, part: PartResult) -> String {
+fn csv_of_part(number: usize, gases: &[&str], part: PartResult) -> String {
     let number = number.to_string();
     let mut lines = csv_line(&number, &format!("volume in ml {REFERENCE}"), "", part.volume, ",");
-    for (figure, gases) in [("mass in micrograms", part.mass), ("rate in micrograms/km", part.rate)] {
-        let figures = GASES.iter().zip(gases.each());
+    for (figure, figures) in [("mass in micrograms", part.mass), ("rate in micrograms/km", part.rate)] {
+        let figures = gases.iter().zip(figures.each());
         lines.extend(figures.map(|(gas, ends)| csv_line(&number, figure, gas, ends, ",")));
     }
     lines
 }
 
+/// What stands after a weighted gas that the test does not have: cells without a figure, and no verdict.
+pub fn not_measured() -> String {
+    format!(",,,{}", word(Verdict::NoVerdict))
+}
+
+fn csv_of_weighted(gas: &str, weighted: Option<Weighted>) -> String {
+    let Some(Weighted { ends, limit, verdict }) = weighted else {
+        return format!(",{WEIGHTED},{gas},{}\n", not_measured());
+    };
+    csv_line("", WEIGHTED, gas, ends, &format!("{limit},{}", word(verdict)))
+}
+
 /// The result in comma-separated values, a line a figure.
 pub fn csv(sheet: &Sheet, result: &TestResult) -> String {
     let mut lines = format!("{HEADING}\n");
-    lines.extend((1..).zip(given_parts(sheet, result)).map(|(number, part)| csv_of_part(number, *part)));
-    for (gas, Weighted { ends, limit, verdict }) in GASES.iter().zip(weighted_of(sheet.limits, result)) {
-        lines += &csv_line("", WEIGHTED, gas, ends, &format!("{limit},{}", word(verdict)));
-    }
+    let gases = measured(result.has_nmhc);
+    lines.extend((1..).zip(given_parts(sheet, result)).map(|(number, part)| csv_of_part(number, gases, *part)));
+    lines.extend(GASES.iter().zip(weighted_of(sheet.limits, result).each).map(|(gas, weighted)| csv_of_weighted(gas, weighted)));
     lines + &csv_line("", "fuel in microlitres per 100 km", "", result.fuel, ",")
 }

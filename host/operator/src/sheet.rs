@@ -13,6 +13,8 @@ const NO_UNSIGNED: u32 = u32::MAX;
 const NO_LIMIT: u64 = u64::MAX;
 /// No temperature reaches this.
 const NO_TEMPERATURE: i32 = i32::MIN;
+/// No reading is taken that is this. Not fitted would be, of the cutter, and would leave NMHC out.
+const NO_READING: Reading = Reading::OVER_RANGE;
 
 /// A line `key = value`.
 #[derive(Debug)]
@@ -74,7 +76,7 @@ impl Section {
     }
 
     pub fn reading(&self, key: &str) -> Reading {
-        self.value(key).and_then(reading_of).unwrap_or(Reading::NOT_FITTED)
+        self.value(key).and_then(reading_of).unwrap_or(NO_READING)
     }
 
     /// Says which lines name a key that is not among the known ones, or one that stood before, or a value that is none of its key's; and which
@@ -104,7 +106,7 @@ fn is_readable(value: &str, form: &Form) -> bool {
     match form {
         Form::Kind => true,
         Form::Whole(_) => whole_of(value).is_some(),
-        Form::Reading => reading_of(value).is_some(),
+        Form::Reading | Form::CutterReading => reading_of(value).is_some(),
     }
 }
 

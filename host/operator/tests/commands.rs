@@ -15,7 +15,14 @@ fn the_demo_is_as_stored() {
 #[test]
 fn the_demo_has_what_it_shows() {
     let text = demo_text("stdout");
-    for shown in ["  pass\n", "  fail\n", "    NOx                                     -3,456               -3,335"] {
+    for shown in [
+        "  pass\n",
+        "  fail\n",
+        "    NOx                                     -3,456               -3,335",
+        "    NMHC                                   461,815              462,032              480,000  pass\n",
+        "    NMHC                      not measured: the cutter is not fitted\n",
+        "\nNMHC, measured on 2 of 3 machines: passed 1, failed 1, undecided 0\n",
+    ] {
         assert!(text.contains(shown), "demo/stdout has no '{shown}'");
     }
 }
@@ -79,7 +86,18 @@ fn a_preset_makes_a_sheet_that_is_taken() {
         let text = without(&demo_text("low_nox.bags"), &["triple ", "fuel ", "density "]);
         let text = text.replacen("class = 3\n", &format!("class = 3\n{test}748\n"), 1).replace("pump = ", &format!("{part}pump = "));
         let path = stored(&format!("{fuel}.bags"), text);
-        assert_eq!(run(&["check", &path]).out, format!("{path}: accepted\n"));
+        let told = run(&["check", &path]);
+        assert_eq!((told.out, told.errors.as_str()), (format!("{path}: accepted\n"), ""));
+    }
+}
+
+/// The regulation has no density of NMHC, and a preset none that would make a sheet one of a bench with the cutter.
+#[test]
+fn a_preset_says_what_the_cutter_needs() {
+    for fuel in ["petrol", "diesel"] {
+        let told = run(&["preset", fuel, "748"]).out;
+        let line = "# density nmhc is not in the regulation: where the cutter is fitted it has to be given too\n";
+        assert!(told.ends_with(line) && told.matches("nmhc").count() == 1, "{told}");
     }
 }
 
@@ -163,7 +181,7 @@ fn every_command_has_help() {
         }
     }
     let told = run(&["--version"]);
-    assert_eq!((told.out.as_str(), told.code), (concat!("ylhovesko ", env!("CARGO_PKG_VERSION"), ", core version 8\n"), Some(0)));
+    assert_eq!((told.out.as_str(), told.code), (concat!("ylhovesko ", env!("CARGO_PKG_VERSION"), ", core version 9\n"), Some(0)));
 }
 
 /// The examples of a command's help, without the name that was typed.

@@ -42,16 +42,24 @@ const BAGS: [(&str, &str, i64, i64, &str); 24] = [
     ("density co2", "part 1, field 9", 1, 2_100_000, " mg per cubic metre"),
 ];
 
+/// What the cutter brings to one.
+const CUTTER: [(&str, &str, i64, i64, &str); 4] = [
+    ("limit nmhc", "test, field 12", 0, 1_000_000_000_000, " micrograms/km"),
+    ("efficiency methane", "test, field 13", 0, 1_000, " in 1/1,000"),
+    ("efficiency ethane", "test, field 13", 0, 1_000, " in 1/1,000"),
+    ("density nmhc", "part 1, field 9", 1, 2_100_000, " mg per cubic metre"),
+];
+
 /// The ranges in words are those by which the core judges: a value beyond either end is refused with its key, and neither end is.
 fn ranges_are_the_cores(name: &str, row: &str, fields: &[(&str, &str, i64, i64, &str)]) {
     for (key, place, lowest, highest, unit) in fields {
         let words = |value: &str| format!("{row}, {place}, {key}: {value}; {} to {}{unit}", grouped(*lowest), grouped(*highest));
         for beyond in [lowest - 1, highest + 1] {
-            let path = stored(&format!("beyond_{name}"), with_value(name, key, Some(&beyond.to_string())).0);
+            let path = stored(&format!("beyond_{}", name.replace('/', "_")), with_value(name, key, Some(&beyond.to_string())).0);
             assert_eq!(run(&["check", &path]).out, format!("{path}: refused: {}\n", words(&grouped(beyond))));
         }
         for end in [lowest, highest] {
-            let path = stored(&format!("end_{name}"), with_value(name, key, Some(&end.to_string())).0);
+            let path = stored(&format!("end_{}", name.replace('/', "_")), with_value(name, key, Some(&end.to_string())).0);
             let told = run(&["check", &path]).out;
             assert!(!told.contains(&format!(", {key}: ")), "{told}");
         }
@@ -66,6 +74,9 @@ fn ranges_of_a_vehicle_sheet() {
 #[test]
 fn ranges_of_a_bag_sheet() {
     ranges_are_the_cores("low_nox.bags", "11 bag sheet value", &BAGS);
+    ranges_are_the_cores("gas.bags", "11 bag sheet value", &CUTTER);
+    // out of range they are refused where the test has no NMHC, too
+    ranges_are_the_cores("gas_lot/serial_2044.bags", "11 bag sheet value", &CUTTER);
 }
 
 /// A value that is no whole number, and one that is missing: the refusal says that there is none, and a note what is expected.
@@ -78,7 +89,8 @@ fn malformed_values_are_named(name: &str, row: &str, fields: &[(&str, &str, i64,
             let note = format!("line {line}: '{key}' is '{value}', expected is a whole number, {range}");
             refused_with_note(&format!("malformed_{name}"), text, &words, &note);
         }
-        let section = if place.starts_with("part 1") { "line 21: [part 1]: " } else { "" };
+        let part = || 1 + demo_text(name).lines().position(|line| line == "[part 1]").unwrap();
+        let section = if place.starts_with("part 1") { format!("line {}: [part 1]: ", part()) } else { String::new() };
         let note = format!("{section}'{key}' is missing, expected is a whole number, {range}");
         refused_with_note(&format!("missing_{name}"), with_value(name, key, None).0, &words, &note);
     }
@@ -92,6 +104,7 @@ fn malformed_values_of_a_vehicle_sheet() {
 #[test]
 fn malformed_values_of_a_bag_sheet() {
     malformed_values_are_named("low_nox.bags", "11 bag sheet value", &BAGS);
+    malformed_values_are_named("gas.bags", "11 bag sheet value", &CUTTER);
 }
 
 /// A whole number is read as it is told: with a sign, or zeros before it.

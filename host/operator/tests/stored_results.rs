@@ -47,9 +47,6 @@ fn verdicts_are_counted_as_stored() {
     assert!(told.contains("\nNOx: passed 1, failed 2, undecided 1\n"), "{told}");
 }
 
-const ENDS: &str = "-10,000,000,000,000 to 10,000,000,000,000 micrograms/km, the lower end at most the upper one";
-const FAULT: &str = "21 lower end above upper end, or an end beyond 10^13 micrograms/km";
-
 /// The ranges in words are those by which the core judges, and the file and the gas are those at fault.
 #[test]
 fn ends_that_the_core_refuses() {
@@ -83,14 +80,6 @@ fn the_first_fault_is_named() {
     // a sheet's refusal comes before that of the lot
     let sheet = stored("before_lot.bags", edited(LOT[1], "saturation = 2777", "saturation = 11000"));
     refused_lot(&[nox, sheet.clone()], &format!("{sheet}: refused: 14 H above 30, part 1"), "");
-}
-
-const EXPECTED: &str = "expected is 'LOWER,UPPER,LIMIT,VERDICT' with whole numbers and verdict pass, fail or undecided";
-
-/// A stored result of which this gas cannot be read: the refusal says that there is no value, and a note what is expected.
-fn no_value(file: &str, gas: &str, note: &str) {
-    let words = format!("{file}: refused: {FAULT}, index 1, {gas}: no value; {ENDS}");
-    refused_lot(&[of_demo(LOT[1]), file.to_string()], &words, &format!("{file}: {note}\n"));
 }
 
 #[test]
@@ -140,8 +129,8 @@ fn a_stored_result_without_its_lines() {
     no_value(&stored("zero.csv", text.clone() + "\0"), "HC", "it is no text: it has a zero byte");
     let first = 1 + text.lines().position(|line| line.starts_with(",weighted ")).unwrap();
     let again = first + text.lines().count();
-    let notes: Vec<String> =
-        (0..).zip(GASES).map(|(at, gas)| format!("line {}: weighted {gas} stands in line {} already", again + at, first + at)).collect();
+    let twice = |(at, gas): (usize, &str)| format!("line {}: weighted {gas} stands in line {} already", again + at, first + at);
+    let notes: Vec<String> = (0..).zip(GASES.into_iter().chain(["NMHC"])).map(twice).collect();
     let file = stored("joined.csv", text.repeat(2));
     no_value(&file, "HC", &notes.join(&format!("\n{file}: ")));
 }
@@ -151,7 +140,7 @@ fn a_stored_result_without_its_lines() {
 fn a_stored_result_that_breaks_off() {
     let whole = result_of(&of_demo(LOT[2]), "unbroken.csv");
     let text = fs::read_to_string(&whole).unwrap();
-    let (first, end) = (text.find(",weighted ").unwrap(), text.find("\n,fuel ").unwrap());
+    let (first, end) = (text.find(",weighted ").unwrap(), text.find("\n,weighted in micrograms/km,NMHC,").unwrap());
     for cut in first..end {
         let file = stored("broken.csv", &text[..cut]);
         let told = lot(std::slice::from_ref(&file), &[]);

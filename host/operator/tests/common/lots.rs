@@ -1,9 +1,12 @@
-//! Lots: the demo's five bag sheets and their stored results, and a lot that is refused.
+//! Lots: the demo's five bag sheets and its three of gas machines, their stored results, and a lot that is refused.
 
 use super::*;
 
 pub const LOT: [&str; 5] =
     ["lot/serial_1118.bags", "lot/serial_1263.bags", "lot/serial_1407.bags", "lot/serial_1552.bags", "lot/serial_1698.bags"];
+/// Of which the second has no NMHC.
+pub const GAS_LOT: [&str; 3] = ["gas.bags", "gas_lot/serial_2044.bags", "gas_lot/serial_2058.bags"];
+/// That every test has.
 pub const GASES: [&str; 4] = ["HC", "CO", "NOx", "CO2"];
 
 pub fn sheets() -> Vec<String> {
@@ -24,10 +27,15 @@ pub fn result_of(sheet: &str, name: &str) -> String {
     csv
 }
 
+/// Sheets of the demo as stored results, in files whose names begin with this.
+pub fn stored_of(sheets: &[&str], prefix: &str) -> Vec<String> {
+    let name = |sheet: &str| format!("{prefix}{}.csv", Path::new(sheet).file_stem().unwrap().to_str().unwrap());
+    sheets.iter().map(|sheet| result_of(&of_demo(sheet), &name(sheet))).collect()
+}
+
 /// The demo's lot as stored results, in files whose names begin with this.
 pub fn results(prefix: &str) -> Vec<String> {
-    let name = |sheet: &str| format!("{prefix}{}.csv", sheet.trim_start_matches("lot/").trim_end_matches(".bags"));
-    LOT.iter().map(|sheet| result_of(&of_demo(sheet), &name(sheet))).collect()
+    stored_of(&LOT, prefix)
 }
 
 /// A weighted gas of a stored result: its ends and its verdict.
@@ -41,9 +49,14 @@ pub fn weighted(result: &str, gas: &str) -> (i64, i64, String) {
 /// The stored result of the first of the demo's lot, with other words for what its weighted NOx has behind the gas; none leaves the line out. And the
 /// number of that line.
 pub fn with_nox(name: &str, words: Option<&str>) -> (String, usize) {
-    let text = fs::read_to_string(result_of(&of_demo(LOT[0]), &format!("whole_{name}"))).unwrap();
-    let start = ",weighted in micrograms/km,NOx,";
-    let at = text.lines().position(|line| line.starts_with(start)).unwrap();
+    with_weighted(LOT[0], name, "NOx", words)
+}
+
+/// So of any sheet of the demo and any gas.
+pub fn with_weighted(sheet: &str, name: &str, gas: &str, words: Option<&str>) -> (String, usize) {
+    let text = fs::read_to_string(result_of(&of_demo(sheet), &format!("whole_{name}"))).unwrap();
+    let start = format!(",weighted in micrograms/km,{gas},");
+    let at = text.lines().position(|line| line.starts_with(&start)).unwrap();
     let line = words.map(|words| format!("{start}{words}"));
     let lines = text.lines().enumerate().filter_map(|(i, old)| if i == at { line.as_deref() } else { Some(old) });
     (stored(name, lines.map(|line| format!("{line}\n")).collect::<String>()), at + 1)
@@ -55,4 +68,19 @@ pub fn refused_lot(files: &[String], words: &str, notes: &str) {
     let told = lot(files, &["--csv", &csv]);
     assert_eq!((told.out, told.errors, told.code), (format!("{words}\n"), notes.to_string(), Some(1)));
     assert!(!Path::new(&csv).exists());
+}
+
+pub const ENDS: &str = "-10,000,000,000,000 to 10,000,000,000,000 micrograms/km, the lower end at most the upper one";
+pub const FAULT: &str = "21 lower end above upper end, or an end beyond 10^13 micrograms/km";
+pub const EXPECTED: &str = "expected is 'LOWER,UPPER,LIMIT,VERDICT' with whole numbers and verdict pass, fail or undecided";
+
+/// A stored result of which this gas cannot be read: the refusal says that there is no value, and a note what is expected.
+pub fn no_value(file: &str, gas: &str, note: &str) {
+    no_value_behind(LOT[1], file, gas, note);
+}
+
+/// So in a lot with another sheet of the demo before it.
+pub fn no_value_behind(sheet: &str, file: &str, gas: &str, note: &str) {
+    let words = format!("{file}: refused: {FAULT}, index 1, {gas}: no value; {ENDS}");
+    refused_lot(&[of_demo(sheet), file.to_string()], &words, &format!("{file}: {note}\n"));
 }

@@ -70,6 +70,22 @@ pub fn with_value(name: &str, key: &str, value: Option<&str>) -> (String, usize)
     (lines.map(|line| format!("{line}\n")).collect(), at + 1)
 }
 
+/// What the cutter brings to a sheet.
+pub const CUTTER_KEYS: [&str; 6] = ["limit nmhc", "efficiency methane", "efficiency ethane", "density nmhc", "bag cutter", "air cutter"];
+
+/// A sheet of a bench without the cutter: a text without the cutter's lines.
+pub fn without_cutter(text: &str) -> String {
+    let is_other = |line: &&str| !CUTTER_KEYS.iter().any(|key| line.starts_with(key));
+    text.lines().filter(is_other).map(|line| format!("{line}\n")).collect()
+}
+
+/// A sheet of a bench without the cutter with the cutter's lines, of which these are its readings in every bag and every air.
+pub fn with_cutter(text: &str, bag: &str, air: &str) -> String {
+    let test = "limit nmhc = 480000\nefficiency methane = 42\nefficiency ethane = 987\nlimit hc = ";
+    let part = format!("density nmhc = 605000\nbag cutter = {bag}\nair cutter = {air}\npump = ");
+    text.replacen("limit hc = ", test, 1).replace("pump = ", &part)
+}
+
 /// `check` refuses the file with these words, and has these notes on it.
 pub fn refused_with_notes(name: &str, bytes: impl AsRef<[u8]>, words: &str, notes: &[&str]) {
     let path = stored(name, bytes);
