@@ -19,7 +19,7 @@ use Rattle.lot.specs.declared.LotAnswer.the-variants.{Refused}
 use Rattle.refusal.specs.declared.Refusal.the-variants.{LotSize}
 use Rattle.lot.specs.Lot.{sheetOf, faulty, firstFault, onFault, lotAnswer}
 use Rattle.lot_crossing.specs.Lot.{sheetOut, refusedOut, lotOut}
-use Rattle.claims.specs.Table.{outcome, firstOf, Exactly, rising, taken, without, recordLines, lotTable}
+use Rattle.claims.specs.Table.{outcome, firstOf, Exactly, rising, taken, takenRecord, without, recordLines, lotTable}
 use Rattle.claims.proofs.Table.{decides, rising-numbered, further}
 use Rattle.claims.proofs.Verdicts.{above}
 
@@ -59,7 +59,7 @@ module _ (r : Record) where
         neither (ltZ u leastEnd) (ltZ (pos mostEnd) u),
       )
 
-  line-is : (taken HC r && (taken CO r && (taken NOx r && (taken CO2 r && (without r || taken NMHC r))))) ≡ not (faulty r)
+  line-is : takenRecord r ≡ not (faulty r)
   unfolding faulty
   line-is =
       let at : Gas → Bool = λ gas. faultyEnds (endsAt gas (r .weighted)) in
