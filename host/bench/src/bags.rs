@@ -1,12 +1,13 @@
-//! The emission sheet, refusals 10 to 14.
+//! The emission sheet, refusals 10 to 14 and 19.
 
-use ylhovesko::bags::{Ends, Gases, Part, PartResult, Reading, Sheet, TestResult, Verdict};
+use ylhovesko::bags::{Bag, Ends, Gases, Part, PartResult, Reading, Sheet, TestResult, Verdict};
 use ylhovesko::Refusal;
 
 use crate::{at, check, nowhere};
 
 const MOST_UNITS: f64 = 16_777_216.0;
 const NOX: usize = 2;
+const NMHC: usize = 4;
 
 /// Both over a divisor above zero, rounded outward.
 pub(crate) fn ends(lower: i64, upper: i64, divisor: i64) -> Ends {
@@ -14,9 +15,15 @@ pub(crate) fn ends(lower: i64, upper: i64, divisor: i64) -> Ends {
 }
 
 /// For two figures of which the second is not negative.
-fn times(a: Ends, b: Ends, divisor: i64) -> Ends {
+fn product(a: Ends, b: Ends) -> Ends {
     let lower = a.lower * if a.lower < 0 { b.upper } else { b.lower };
     let upper = a.upper * if a.upper < 0 { b.lower } else { b.upper };
+    Ends { lower, upper }
+}
+
+/// For two figures of which the second is not negative.
+fn times(a: Ends, b: Ends, divisor: i64) -> Ends {
+    let Ends { lower, upper } = product(a, b);
     ends(lower, upper, divisor)
 }
 
@@ -46,11 +53,12 @@ fn field(part: u32, field: u32, holds: bool) -> Result<(), Refusal> {
 }
 
 fn judge_test(s: &Sheet) -> Result<(), Refusal> {
-    let (triple, fuel) = (s.triple, s.fuel);
+    let (triple, fuel, cutter) = (s.triple, s.fuel, s.efficiencies);
     field(0, 10, (100..=200).contains(&triple.d) && triple.wc <= 20 && triple.wh <= 20)?;
     let factors = fuel.hc <= 1000 && fuel.co <= 1000 && fuel.co2 <= 1000;
     field(0, 11, (1..=1500).contains(&fuel.k) && factors && (600..=1000).contains(&fuel.density))?;
-    field(0, 12, s.limits.each().iter().all(|&limit| limit <= 1_000_000_000_000))
+    field(0, 12, s.limits.each().iter().all(|&limit| limit <= 1_000_000_000_000))?;
+    field(0, 13, cutter.methane <= 1000 && cutter.ethane <= 1000)
 }
 
 fn judge_part(place: u32, p: &Part) -> Result<(), Refusal> {
@@ -65,25 +73,43 @@ fn judge_part(place: u32, p: &Part) -> Result<(), Refusal> {
     field(place, 9, p.density.each().iter().all(|density| (1..=2_100_000).contains(density)))
 }
 
+/// In the fifth place what was read behind the cutter.
 #[derive(Clone, Copy, Default)]
 struct Units {
-    bag: [Ends; 4],
-    air: [Ends; 4],
+    bag: [Ends; 5],
+    air: [Ends; 5],
 }
 
+fn has_cutter(bag: &Bag) -> bool {
+    bag.cutter.kind != Reading::NOT_FITTED.kind
+}
+
+/// The readings of a part. A cutter that is not fitted stays 0.
 fn readings(place: u32, p: &Part) -> Result<Units, Refusal> {
     let mut found = Units::default();
     let (bag, air) = (p.bag.each(), p.air.each());
-    for gas in 0..4 {
+    for gas in 0..5 {
         let unusable = |side| Refusal { number: 12, at: place, within: gas as u32 + 1, side };
-        found.bag[gas] = units(bag[gas]).ok_or(unusable(1))?;
-        found.air[gas] = units(air[gas]).ok_or(unusable(2))?;
+        if gas != NMHC || has_cutter(&p.bag) {
+            found.bag[gas] = units(bag[gas]).ok_or(unusable(1))?;
+        }
+        if gas != NMHC || has_cutter(&p.air) {
+            found.air[gas] = units(air[gas]).ok_or(unusable(2))?;
+        }
     }
     Ok(found)
 }
 
+/// The fifth gas of a bag or of its air: it rises with HC and falls with what was read behind the cutter.
+fn nmhc(s: &Sheet, side: &[Ends; 5]) -> Ends {
+    let (hc, cutter) = (side[0], side[NMHC]);
+    let [methane, ethane] = [s.efficiencies.methane, s.efficiencies.ethane].map(i64::from);
+    let over = |hc: i64, cutter: i64| hc * (1000 - methane) - cutter * 1000;
+    ends(over(hc.lower, cutter.upper), over(hc.upper, cutter.lower), ethane - methane)
+}
+
 fn g(s: &Sheet, units: &Units) -> Ends {
-    let [hc, co, _, co2] = units.bag;
+    let [hc, co, _, co2, _] = units.bag;
     let [wc, wh] = [s.triple.wc, s.triple.wh].map(i64::from);
     let sum = |hc: i64, co: i64, co2: i64| 10 * co2 + wc * co + wh * hc;
     Ends { lower: sum(hc.lower, co.lower, co2.lower), upper: sum(hc.upper, co.upper, co2.upper) }
@@ -115,16 +141,22 @@ fn volume(p: &Part) -> Ends {
     ends(swept * 5863, swept * 5863, 101_325 * (2 * i64::from(p.temperature) + 5463))
 }
 
-/// No reading is below zero, and G is below Q: it rises with the bag and with G, and falls with the air.
+/// G is below Q, and the air's fifth gas may be below zero.
 fn concentration(bag: Ends, air: Ends, g: Ends, q: i64) -> Ends {
-    let over = |bag: i64, air: i64, g: i64| 16 * (bag * q - air * (q - g));
-    ends(over(bag.lower, air.upper, g.lower), over(bag.upper, air.lower, g.upper), q)
+    let air = product(air, Ends { lower: q - g.upper, upper: q - g.lower });
+    ends(16 * (bag.lower * q - air.upper), 16 * (bag.upper * q - air.lower), q)
 }
 
-fn part_result(s: &Sheet, p: &Part, units: &Units) -> PartResult {
+/// The figures of a part; the fifth gas is 0 where the test does not have it.
+fn part_result(s: &Sheet, p: &Part, units: &Units, has_nmhc: bool) -> PartResult {
     let (g, q, volume, density, kh) = (g(s, units), q(s), volume(p), p.density.each(), kh(p));
-    let mass: [Ends; 4] = std::array::from_fn(|gas| {
-        let gas_volume = times(concentration(units.bag[gas], units.air[gas], g, q), volume, 4_096_000);
+    let mass: [Ends; 5] = std::array::from_fn(|gas| {
+        let (bag, air) = match gas {
+            NMHC if !has_nmhc => return Ends::default(),
+            NMHC => (nmhc(s, &units.bag), nmhc(s, &units.air)),
+            _ => (units.bag[gas], units.air[gas]),
+        };
+        let gas_volume = times(concentration(bag, air, g, q), volume, 4_096_000);
         let mass = scaled(gas_volume, i64::from(density[gas]), 1_000_000);
         if gas == NOX {
             times(mass, kh, 65_536)
@@ -157,30 +189,38 @@ fn weights(s: &Sheet) -> Result<&'static [i64], Refusal> {
     }
 }
 
-/// The full result of a test, or the first of the refusals 10 to 14.
-pub fn result(s: &Sheet) -> Result<TestResult, Refusal> {
-    let weights = weights(s)?;
-    let n = weights.len();
+/// The units of each part, or the first of the refusals 11 to 14 and 19; and whether the test has the fifth gas.
+fn judge(s: &Sheet, given: &[Part]) -> Result<([Units; 3], bool), Refusal> {
     judge_test(s)?;
-    for (k, part) in s.parts[..n].iter().enumerate() {
+    for (k, part) in given.iter().enumerate() {
         judge_part(k as u32 + 1, part)?;
     }
     let mut units = [Units::default(); 3];
-    for (k, part) in s.parts[..n].iter().enumerate() {
+    for (k, part) in given.iter().enumerate() {
         units[k] = readings(k as u32 + 1, part)?;
     }
-    for (k, units) in units[..n].iter().enumerate() {
+    for (k, units) in units[..given.len()].iter().enumerate() {
         check(g(s, units).upper < q(s), at(13, k as u32 + 1))?;
     }
-    for (k, part) in s.parts[..n].iter().enumerate() {
+    for (k, part) in given.iter().enumerate() {
         check(dry_enough(part), at(14, k as u32 + 1))?;
     }
+    let has_nmhc = given.iter().all(|part| has_cutter(&part.bag) && has_cutter(&part.air));
+    check(!has_nmhc || s.efficiencies.ethane >= s.efficiencies.methane + 500, nowhere(19))?;
+    Ok((units, has_nmhc))
+}
+
+/// The full result of a test, or the first of the refusals 10 to 14 and 19.
+pub fn result(s: &Sheet) -> Result<TestResult, Refusal> {
+    let weights = weights(s)?;
+    let given = &s.parts[..weights.len()];
+    let (units, has_nmhc) = judge(s, given)?;
     let mut parts = [PartResult::default(); 3];
-    for k in 0..n {
-        parts[k] = part_result(s, &s.parts[k], &units[k]);
+    for (k, part) in given.iter().enumerate() {
+        parts[k] = part_result(s, part, &units[k], has_nmhc);
     }
     let rates = parts.map(|part| part.rate.each());
-    let weighted: [Ends; 4] = std::array::from_fn(|gas| {
+    let weighted: [Ends; 5] = std::array::from_fn(|gas| {
         let (mut lower, mut upper) = (0, 0);
         for (weight, rate) in weights.iter().zip(&rates) {
             lower += weight * rate[gas].lower;
@@ -189,12 +229,15 @@ pub fn result(s: &Sheet) -> Result<TestResult, Refusal> {
         ends(lower, upper, 100)
     });
     let limits = s.limits.each();
-    let verdicts = std::array::from_fn(|gas| verdict(weighted[gas], limits[gas]));
-    Ok(TestResult { parts, weighted: Gases::of(weighted), verdicts: Gases::of(verdicts), fuel: fuel(s, weighted) })
+    let mut verdicts = std::array::from_fn(|gas| verdict(weighted[gas], limits[gas]));
+    if !has_nmhc {
+        verdicts[NMHC] = Verdict::NoVerdict;
+    }
+    Ok(TestResult { parts, weighted: Gases::of(weighted), verdicts: Gases::of(verdicts), has_nmhc, fuel: fuel(s, weighted) })
 }
 
 /// In microlitres per 100 km.
-fn fuel(s: &Sheet, [hc, co, _, co2]: [Ends; 4]) -> Ends {
+fn fuel(s: &Sheet, [hc, co, _, co2, _]: [Ends; 5]) -> Ends {
     let [f1, f2, f3] = [s.fuel.hc, s.fuel.co, s.fuel.co2].map(i64::from);
     let carbon = |hc: i64, co: i64, co2: i64| i64::from(s.fuel.k) * (f1 * hc + f2 * co + f3 * co2);
     ends(carbon(hc.lower, co.lower, co2.lower), carbon(hc.upper, co.upper, co2.upper), 10_000 * i64::from(s.fuel.density))

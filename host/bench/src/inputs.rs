@@ -2,7 +2,7 @@
 
 use compare::lot::FARTHEST;
 use compare::random::Random;
-use ylhovesko::bags::{petrol, result, Ends, Gases, Part, Reading, Sheet};
+use ylhovesko::bags::{petrol, result, Bag, Efficiencies, Ends, Gases, Part, Reading, Sheet};
 use ylhovesko::gear::{gears, Vehicle};
 use ylhovesko::lot::{Record, MOST};
 
@@ -63,15 +63,18 @@ pub fn vehicles(count: usize, rule_set: u32, traces: &[&[u8]]) -> Vec<Vehicle> {
     std::iter::repeat_with(|| planned(&mut random, rule_set)).filter(accepted).take(count).collect()
 }
 
-/// Tests as a bench has them: HC, CO and NOx in ppm and CO2 in percent, dilution air that is nearly clean, and every field near its usual value.
+/// Tests as a bench has them: HC, also behind the cutter, CO and NOx in ppm and CO2 in percent, dilution air that is nearly clean, and every field near its
+/// usual value.
 fn ordinary(random: &mut Random) -> Sheet {
     let fuel = petrol(random.from(720, 775));
     let class = random.from(1, 3);
     let mut part = || {
         let mut ppm = |most: u32| Reading::ppm(random.from(0, 100 * most) as f32 / 100.0);
-        let bag = Gases { hc: ppm(300), co: ppm(4000), nox: ppm(120), co2: Reading::percent(random.from(30, 300) as f32 / 100.0) };
+        let [hc, co, nox, cutter] = [300, 4000, 120, 60].map(&mut ppm);
+        let bag = Bag { hc, co, nox, co2: Reading::percent(random.from(30, 300) as f32 / 100.0), cutter };
         let mut ppm = |most: u32| Reading::ppm(random.from(0, 100 * most) as f32 / 100.0);
-        let air = Gases { hc: ppm(5), co: ppm(4), nox: ppm(1), co2: Reading::percent(random.from(3, 5) as f32 / 100.0) };
+        let [hc, co, nox, cutter] = [5, 4, 1, 2].map(&mut ppm);
+        let air = Bag { hc, co, nox, co2: Reading::percent(random.from(3, 5) as f32 / 100.0), cutter };
         Part {
             pump: random.from(1000, 4000),
             revolutions: random.from(10_000, 40_000),
@@ -81,14 +84,15 @@ fn ordinary(random: &mut Random) -> Sheet {
             humidity: random.from(300, 600),
             saturation: random.from(2000, 3500),
             distance: random.from(4000, 16_000),
-            density: fuel.density,
+            density: Gases { nmhc: 577_000, ..fuel.density },
             bag,
             air,
         }
     };
     let parts = [part(), part(), part()];
-    let limits = Gases { hc: 1_000_000, co: 5_500_000, nox: 300_000, co2: 100_000_000 };
-    Sheet { class, count: if class == 3 { 3 } else { 2 }, triple: fuel.triple, fuel: fuel.fuel, limits, parts }
+    let limits = Gases { hc: 1_000_000, co: 5_500_000, nox: 300_000, co2: 100_000_000, nmhc: 800_000 };
+    let efficiencies = Efficiencies { methane: random.from(20, 150), ethane: random.from(950, 1000) };
+    Sheet { class, count: if class == 3 { 3 } else { 2 }, triple: fuel.triple, fuel: fuel.fuel, limits, efficiencies, parts }
 }
 
 /// The kinds of sheets, with the first so many that are accepted.
@@ -109,11 +113,11 @@ pub fn masses(count: usize) -> Vec<(u32, u32)> {
 /// Ends from the whole of their range and verdicts with no order to them, so that no branch can be foreseen.
 fn random_record(random: &mut Random) -> Record {
     let mut end = || random.below(2 * FARTHEST as u64 + 1) as i64 - FARTHEST;
-    let weighted = [(); 4].map(|()| {
+    let weighted = [(); 5].map(|()| {
         let (one, other) = (end(), end());
         Ends { lower: one.min(other), upper: one.max(other) }
     });
-    Record { weighted: Gases::of(weighted), verdicts: Gases::of([(); 4].map(|()| random.from(1, 3))) }
+    Record { weighted: Gases::of(weighted), verdicts: Gases::of([(); 5].map(|()| random.from(1, 3))), has_nmhc: random.from(0, 1) }
 }
 
 /// So many lots of the greatest size, from one source of records.

@@ -12,6 +12,9 @@ pub mod speeds;
 pub mod sums;
 pub mod tenths;
 
+/// How many gases the lines of files from before M-108 know.
+pub const BEFORE_M_108: usize = 4;
+
 /// An outcome as four numbers: 0 or the refusal's number, and its place.
 pub type Told = [u32; 4];
 

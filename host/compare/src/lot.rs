@@ -2,6 +2,7 @@
 
 use std::fmt;
 
+use plain::bags::GASES;
 use plain::figure::Figure;
 use ylhovesko::bags::{Ends, Gases};
 use ylhovesko::lot::{lot, GasSheet, Record};
@@ -20,19 +21,35 @@ pub struct Case {
     pub records: Vec<Record>,
 }
 
-/// The case as a line of vectors/M-105-lots.txt has it, up to its answer.
+/// The case as a line of vectors/M-108-lots.txt has it, up to its answer.
 impl fmt::Display for Case {
     fn fmt(&self, f: &mut fmt::Formatter) -> fmt::Result {
-        write!(f, "{}", self.records.len())?;
-        for Record { weighted, verdicts } in &self.records {
-            let mut each = weighted.each().into_iter().zip(verdicts.each());
-            each.try_for_each(|(Ends { lower, upper }, verdict)| write!(f, " {lower} {upper} {verdict}"))?;
-        }
-        Ok(())
+        f.write_str(&self.text(GASES))
     }
 }
 
-/// A gas of the sheet: how many passed, failed and were undecided, the sums of lower and of upper ends, and where the list is not empty the mean's ends and the
+impl Case {
+    /// The case as a line has it that knows so many gases.
+    pub fn text(&self, gases: usize) -> String {
+        let records = self.records.iter().map(|record| format!(" {}", record_text(record, gases)));
+        self.records.len().to_string() + &records.collect::<String>()
+    }
+}
+
+/// A record, its fifth gas after the number that says whether it has one. Where it has none "-" stands for what is 0 and no verdict, as an accepted test has it.
+fn record_text(record: &Record, gases: usize) -> String {
+    let gas = |(Ends { lower, upper }, verdict)| format!("{lower} {upper} {verdict}");
+    let each = record.weighted.each().into_iter().zip(record.verdicts.each());
+    let mut words: Vec<String> = each.take(gases).map(gas).collect();
+    if gases == GASES {
+        let none = record.has_nmhc == 0 && (record.weighted.nmhc, record.verdicts.nmhc) == (Ends::default(), 0);
+        let fifth = if none { "- - -" } else { &words[4] };
+        words[4] = format!("{} {fifth}", record.has_nmhc);
+    }
+    words.join(" ")
+}
+
+/// A gas of the sheet: how many passed, failed and were undecided, the sums of lower and of upper ends, and where a record has the gas the mean's ends and the
 /// index of the record with the greatest upper end.
 #[derive(Clone, Copy, Debug, PartialEq, Eq)]
 pub struct OfGas {
@@ -45,9 +62,17 @@ pub struct OfGas {
 /// The outcome, and where it is none of the refusals each gas of the sheet, in the paper's order.
 pub type Answer = (Told, Vec<OfGas>);
 
-fn read_record(words: &mut Words) -> Record {
-    let [hc, co, nox, co2] = [(); 4].map(|()| (Ends { lower: number(words), upper: number(words) }, number(words)));
-    Record { weighted: Gases::of([hc.0, co.0, nox.0, co2.0]), verdicts: Gases::of([hc.1, co.1, nox.1, co2.1]) }
+fn read_record(words: &mut Words, gases: usize) -> Record {
+    let mut record = Record::default();
+    for gas in 1..=gases as u32 {
+        if gas == GASES as u32 {
+            record.has_nmhc = number(words);
+        }
+        let (lower, upper) = (if_any(words).unwrap_or(0), if_any(words).unwrap_or(0));
+        *of_gas(&mut record.weighted, gas) = Ends { lower, upper };
+        *of_gas(&mut record.verdicts, gas) = if_any(words).unwrap_or(0);
+    }
+    record
 }
 
 /// A number, or nothing where a line has "-" for it.
@@ -63,14 +88,17 @@ fn read_gas(words: &mut Words) -> OfGas {
     OfGas { counts, sum, mean: lower.zip(upper).map(|(lower, upper)| [lower, upper]), worst: if_any(words) }
 }
 
-/// The case and the answer of a line of vectors/M-105-lots.txt or vectors/directed_lot.txt.
-pub fn read(text: &str) -> (Case, Answer) {
+/// What a sheet has of a gas that no record has.
+pub const OF_NONE: OfGas = OfGas { counts: [0; 3], sum: [0; 2], mean: None, worst: None };
+
+/// The case and the answer of a line that knows so many gases. The records of one from before M-108 do not have the fifth.
+pub fn read(text: &str, gases: usize) -> (Case, Answer) {
     let words = &mut text.split(' ');
     let count: usize = number(words);
-    let records = (0..count).map(|_| read_record(words)).collect();
+    let records = (0..count).map(|_| read_record(words, gases)).collect();
     let answer = match words.next() {
         Some("refused") => ([number(words), if_any(words).unwrap_or(0), 0, 0], Vec::new()),
-        Some("result") => ([0; 4], [(); 4].map(|()| read_gas(words)).to_vec()),
+        Some("result") => ([0; 4], (0..GASES).map(|gas| if gas < gases { read_gas(words) } else { OF_NONE }).collect()),
         other => panic!("neither refused nor result: {other:?}"),
     };
     assert_eq!(words.next(), None, "{text}");
@@ -125,7 +153,7 @@ pub fn by_core(case: &Case) -> Answer {
 /// The record as the second implementation takes it.
 pub fn plain_record(record: &Record) -> plain::lot::Record {
     let figure = |Ends { lower, upper }: Ends| Figure { lower: lower.into(), upper: upper.into() };
-    plain::lot::Record { weighted: record.weighted.each().map(figure), verdicts: record.verdicts.each() }
+    plain::lot::Record { weighted: record.weighted.each().map(figure), verdicts: record.verdicts.each(), has_nmhc: record.has_nmhc != 0 }
 }
 
 /// What the second implementation says.
@@ -150,26 +178,29 @@ fn rounded_outward([lower, upper]: [i128; 2], sum: [i128; 2], records: i128) -> 
     outward.iter().all(|outward| (0..records).contains(outward))
 }
 
-/// Whether a gas of an accepted list has what 02 says of any: "the three counts add up to the number of records"; a mean and an index where there is a record;
-/// and the index is that of the first of the greatest upper ends.
-fn adds_up(uppers: &[i64], gas: &OfGas) -> bool {
+/// Whether a gas of an accepted list has what 02 says of any: "the three counts add up to the number of records" that have it; a mean and an index where there is
+/// such a record; and the index is that of the first of the greatest upper ends, in the whole list.
+fn adds_up(uppers: &[Option<i64>], gas: &OfGas) -> bool {
     let OfGas { counts, sum, mean, worst } = *gas;
+    let having = uppers.iter().flatten().count();
+    // a record without the gas is below every other
     let first_greatest = |worst: usize| {
         let (before, after) = uppers.split_at(worst);
-        before.iter().all(|upper| *upper < uppers[worst]) && after.iter().all(|upper| *upper <= uppers[worst])
+        uppers[worst].is_some() && before.iter().all(|upper| *upper < uppers[worst]) && after.iter().all(|upper| *upper <= uppers[worst])
     };
     let figures = match (mean, worst) {
-        (Some(mean), Some(worst)) => rounded_outward(mean, sum, uppers.len() as i128) && first_greatest(worst),
-        (None, None) => uppers.is_empty() && sum == [0; 2],
+        (Some(mean), Some(worst)) => rounded_outward(mean, sum, having as i128) && first_greatest(worst),
+        (None, None) => having == 0 && sum == [0; 2],
         _ => false,
     };
-    counts.iter().sum::<usize>() == uppers.len() && figures
+    counts.iter().sum::<usize>() == having && figures
 }
 
 /// Whether each gas of an accepted list has what 02 says of any list.
 pub fn all_add_up(case: &Case, gases: &[OfGas]) -> bool {
-    let uppers = |gas: usize| case.records.iter().map(|record| record.weighted.each()[gas].upper).collect::<Vec<i64>>();
-    gases.len() == 4 && gases.iter().enumerate().all(|(place, gas)| adds_up(&uppers(place), gas))
+    let upper = |record: &Record, gas: usize| (gas + 1 < GASES || record.has_nmhc != 0).then_some(record.weighted.each()[gas].upper);
+    let uppers = |gas: usize| case.records.iter().map(|record| upper(record, gas)).collect::<Vec<_>>();
+    gases.len() == GASES && gases.iter().enumerate().all(|(place, gas)| adds_up(&uppers(place), gas))
 }
 
 /// The number of records: few, as many as a list may have or one off, any number up to those, or far too many.
@@ -232,9 +263,29 @@ fn verdict(random: &mut Random) -> u32 {
     }
 }
 
-fn record(random: &mut Random, bands: &[Band; 4]) -> Record {
+/// Of how many records out of 4 the fifth gas is left out: of none, of all, or of some.
+fn left_out(random: &mut Random) -> u64 {
+    random.one_of(&[0, 0, 1, 2, 3, 4])
+}
+
+/// Whether a record has the fifth gas. A 1 says so, and now and then another number, of which some have no low bits.
+fn has_nmhc(random: &mut Random, left_out: u64) -> u32 {
+    match random.below(4) {
+        place if place < left_out => 0,
+        _ if random.once_in(8) => random.one_of(&[2, 3, 256, 65_536, 1 << 31, u32::MAX]),
+        _ => 1,
+    }
+}
+
+/// A record without the fifth gas has 0 for it, or anything that is not to be read.
+fn record(random: &mut Random, bands: &[Band; GASES], left_out: u64) -> Record {
     let weighted = Gases::of(bands.each_ref().map(|band| weighted(random, band)));
-    Record { weighted, verdicts: Gases::of(bands.each_ref().map(|band| band.verdict.unwrap_or_else(|| verdict(random)))) }
+    let verdicts = Gases::of(bands.each_ref().map(|band| band.verdict.unwrap_or_else(|| verdict(random))));
+    let mut record = Record { weighted, verdicts, has_nmhc: has_nmhc(random, left_out) };
+    if record.has_nmhc == 0 && random.once_in(2) {
+        (record.weighted.nmhc, record.verdicts.nmhc) = (Ends::default(), 0);
+    }
+    record
 }
 
 /// Ends at fault: a lower one above its upper one, one that is beyond by one, by far or by any number, both; and some that are only just not.
@@ -264,7 +315,7 @@ fn damage(random: &mut Random, records: &mut [Record]) {
         1 => last,
         _ => random.from(0, last),
     };
-    let ends = of_gas(&mut records[index as usize].weighted, random.from(1, 4));
+    let ends = of_gas(&mut records[index as usize].weighted, random.from(1, GASES as u32));
     *ends = odd(random, *ends);
 }
 
@@ -272,8 +323,9 @@ fn damage(random: &mut Random, records: &mut [Record]) {
 pub fn case(seed: u64) -> Case {
     let mut random = Random::new(seed);
     let random = &mut random;
-    let bands = [(); 4].map(|()| band(random));
-    let mut records: Vec<Record> = (0..count(random)).map(|_| record(random, &bands)).collect();
+    let bands = [(); GASES].map(|()| band(random));
+    let left_out = left_out(random);
+    let mut records: Vec<Record> = (0..count(random)).map(|_| record(random, &bands, left_out)).collect();
     if !records.is_empty() && random.once_in(3) {
         let times = random.from(1, 4);
         (0..times).for_each(|_| damage(random, &mut records));

@@ -2,13 +2,14 @@
 //!
 //! No call tells the units of a reading, but on the sheet that is used here a mass does: 256 cubic metres at the reference state, clean air and a
 //! density of 1,000 mg per cubic metre make one microgram of each unit of 1/256 ppm, and no stage has anything to round. So the ends of the mass are
-//! those of the reading. NOx has its humidity correction besides, so its readings are used for refusals alone.
+//! those of the reading. NOx has its humidity correction besides, so its readings are used for refusals alone. The cutter lets all methane pass and nothing else:
+//! the fifth gas is the reading of HC less the cutter's.
 
 use plain::bags::units;
 use plain::figure::Figure;
-use ylhovesko::bags::{result, Ends, Fuel, Gases, Part, Reading, Sheet, Triple};
+use ylhovesko::bags::{result, Bag, Efficiencies, Ends, Fuel, Gases, Part, Reading, Sheet, Triple};
 
-use crate::bags::{of_gas, plain_message};
+use crate::bags::{of_gas, plain_message, reading_of};
 use crate::core_told;
 
 /// The kinds with a float, ppm and percent, and how many units one of each is.
@@ -17,19 +18,19 @@ pub const MEASURES: [(u32, u64); 2] = [(0, 256), (1, 2_560_000)];
 /// The most units that a reading may have.
 pub const MOST: u64 = 16_777_216;
 
-/// The gases whose mass is their reading.
-pub const WEIGHED: [u32; 3] = [1, 2, 4];
+/// The gases whose mass is their reading, and the fifth, whose mass is that of HC less its reading.
+pub const WEIGHED: [u32; 4] = [1, 2, 4, 5];
 
 /// The sheet on which a mass is its reading, with every reading zero. A rate is its mass.
 pub fn sheet() -> Sheet {
-    let zeros = Gases::of([Reading::ppm(0.0); 4]);
+    let zeros = Bag::of([Reading::ppm(0.0); 5]);
     let part = Part {
         pump: 2560,
         revolutions: 100_000,
         barometer: 101_325,
         temperature: 200,
         distance: 1000,
-        density: Gases::of([1000; 4]),
+        density: Gases::of([1000; 5]),
         bag: zeros,
         air: zeros,
         ..Part::default()
@@ -40,6 +41,7 @@ pub fn sheet() -> Sheet {
         triple: Triple { d: 200, wc: 0, wh: 0 },
         fuel: Fuel { k: 1155, hc: 866, co: 429, co2: 273, density: 750 },
         limits: Gases::default(),
+        efficiencies: Efficiencies { methane: 0, ethane: 1000 },
         parts: [part; 3],
     }
 }
@@ -87,22 +89,27 @@ impl Sweep {
     fn weigh(&mut self) {
         let mut sheet = sheet();
         for (place, &(bits, _)) in self.waiting.iter().enumerate() {
-            *of_gas(&mut sheet.parts[place / 3].bag, WEIGHED[place % 3]) = self.reading(bits);
+            *reading_of(&mut sheet.parts[place / WEIGHED.len()].bag, WEIGHED[place % WEIGHED.len()]) = self.reading(bits);
         }
         let mut told = result(sheet).unwrap_or_else(|refusal| panic!("{refusal:?} with {:08x?} of kind {}", self.waiting, self.kind));
-        for (place, (bits, units)) in self.waiting.drain(..).enumerate() {
-            let Ends { lower, upper } = *of_gas(&mut told.parts[place / 3].mass, WEIGHED[place % 3]);
-            assert_eq!([lower, upper].map(i128::from), [units.lower, units.upper], "units of {bits:08x}, kind {}", self.kind);
+        for (part, readings) in told.parts.iter_mut().zip(self.waiting.chunks(WEIGHED.len())) {
+            let hc = readings[0].1;
+            for (gas, &(bits, units)) in WEIGHED.into_iter().zip(readings) {
+                let weight = if gas == 5 { [hc.lower - units.upper, hc.upper - units.lower] } else { [units.lower, units.upper] };
+                let Ends { lower, upper } = *of_gas(&mut part.mass, gas);
+                assert_eq!([lower, upper].map(i128::from), weight, "units of {bits:08x}, kind {}, gas {gas}", self.kind);
+            }
         }
+        self.waiting.clear();
     }
 
     /// At another place for each such pattern.
     fn refuse(&self, bits: u32) {
-        let place = (self.unusable % 24) as u32;
-        let [part, gas, side] = [place / 8 + 1, place / 2 % 4 + 1, place % 2 + 1];
+        let place = (self.unusable % 30) as u32;
+        let [part, gas, side] = [place / 10 + 1, place / 2 % 5 + 1, place % 2 + 1];
         let mut sheet = sheet();
         let Part { bag, air, .. } = &mut sheet.parts[part as usize - 1];
-        *of_gas(if side == 1 { bag } else { air }, gas) = self.reading(bits);
+        *reading_of(if side == 1 { bag } else { air }, gas) = self.reading(bits);
         assert_eq!(core_told(result(sheet).map(|_| ())), [12, part, gas, side], "{bits:08x}, kind {}", self.kind);
     }
 }

@@ -2,10 +2,10 @@
 
 use std::collections::BTreeMap;
 
-use compare::bags::{by_core, by_plain, case, plain_message, plain_sheet, read, Answer};
-use compare::{cases, directed, stored};
-use plain::bags::{test, units, Part, PartResult};
-use ylhovesko::bags::{Gases, Reading, Sheet};
+use compare::bags::{by_core, by_plain, case, plain_message, plain_sheet, read, Answer, ENDS, WEIGHTED};
+use compare::{cases, directed, stored, BEFORE_M_108};
+use plain::bags::{test, units, Part, PartResult, GASES};
+use ylhovesko::bags::{Bag, Reading, Sheet};
 
 const BAGS: &str = include_str!("../../vectors/bags.txt");
 const BY_01: &str = include_str!("../../vectors/bags_by_01.txt");
@@ -23,17 +23,18 @@ fn nearest(reading: Reading) -> Reading {
 /// The sheet with its readings as they were rounded before. A whole number of units is both ends, so its answer is what the sheet had before.
 fn in_whole_units(mut sheet: Sheet) -> Sheet {
     for part in &mut sheet.parts {
-        part.bag = Gases::of(part.bag.each().map(nearest));
-        part.air = Gases::of(part.air.each().map(nearest));
+        part.bag = Bag::of(part.bag.each().map(nearest));
+        part.air = Bag::of(part.air.each().map(nearest));
     }
     sheet
 }
 
-/// The pairs of ends of a result, and its verdicts.
-fn ends_and_verdicts(figures: &[i128]) -> (Vec<[i128; 2]>, Vec<i128>) {
-    let (weighted, rest) = figures.split_at(12);
-    let ends = weighted.chunks(3).chain(rest.chunks(2)).map(|pair| [pair[0], pair[1]]);
-    (ends.collect(), weighted.chunks(3).map(|gas| gas[2]).collect())
+/// The pairs of ends of a result, and its verdicts; those of the fifth gas where the test has it.
+fn ends_and_verdicts(figures: &[Option<i128>]) -> (Vec<[i128; 2]>, Vec<i128>) {
+    let (weighted, rest) = figures.split_at(WEIGHTED * GASES);
+    let pairs = weighted.chunks(WEIGHTED).chain(rest.chunks(ENDS));
+    let ends = pairs.filter_map(|pair| Some([pair[0]?, pair[1]?]));
+    (ends.collect(), weighted.chunks(WEIGHTED).filter_map(|gas| gas[ENDS]).collect())
 }
 
 /// How the answer of now stands to the one of before. Nothing but this may have changed: every pair of ends holds the one of before, and a verdict can only have
@@ -41,7 +42,7 @@ fn ends_and_verdicts(figures: &[i128]) -> (Vec<[i128; 2]>, Vec<i128>) {
 fn change(before: &Answer, now: &Answer) -> &'static str {
     let ([number, part, ..], told) = (before.0, now.0);
     if before.0 != told {
-        assert!(told[0] == 13 && (number == 0 || number == 14 || (number == 13 && told[1] < part)), "{before:?} {now:?}");
+        assert!(told[0] == 13 && (matches!(number, 0 | 14 | 19) || (number == 13 && told[1] < part)), "{before:?} {now:?}");
         return if number == 0 { "13, and taken before" } else { "13 in place of another refusal" };
     }
     if before == now {
@@ -62,7 +63,7 @@ fn change(before: &Answer, now: &Answer) -> &'static str {
 fn m_104_widens_ends_and_nothing_else() {
     let mut changes = BTreeMap::new();
     for ((line, by_01), (same_line, now)) in stored(BY_01).zip(stored(BAGS)) {
-        let ((sheet, by_01), (same, now)) = (read(by_01), read(now));
+        let ((sheet, by_01), (same, now)) = (read(by_01, BEFORE_M_108), read(now, BEFORE_M_108));
         assert!(line == same_line && sheet == same, "line {line}");
         *changes.entry(change(&by_01, &now)).or_insert(0) += 1;
         let whole = in_whole_units(sheet);
@@ -81,7 +82,7 @@ fn random_cases_widen() {
         *changes.entry(change(&by_core(&in_whole_units(sheet)), &by_core(&sheet))).or_insert(0) += 1;
     }
     println!("{changes:?}");
-    assert!(some < 100_000 || changes.len() == 6 && changes.values().all(|&count| count >= 50), "a change is hardly met: {changes:?}");
+    assert!(some < 100_000 || changes.len() == 6 && changes.values().all(|&count| count >= 40), "a change is hardly met: {changes:?}");
 }
 
 /// How far apart the weighted ends of HC, CO and CO2 are, and those of NOx, where demand 3 speaks of the test: 1,000 m or more and at most 200 cubic metres in every

@@ -1,7 +1,17 @@
-//! The emission sheet (01, Bag sheet and figures), refusals 10 to 14. Gases go HC, CO, NOx, CO2.
+//! The emission sheet (01, Bag sheet and figures; 02, M-104 and M-108), refusals 10 to 14 and 19. Gases go HC, CO, NOx, CO2 and, where the test has it, NMHC.
 
 use crate::figure::{combined, Figure};
 use crate::{at, check, nowhere, Refusal};
+
+/// "The record holds five gases throughout" (02, M-108).
+pub const GASES: usize = 5;
+
+pub(crate) const HC: usize = 0;
+pub(crate) const CO: usize = 1;
+pub(crate) const NOX: usize = 2;
+pub(crate) const CO2: usize = 3;
+/// Hydrocarbons without methane. Among the readings its place is the cutter's.
+pub(crate) const NMHC: usize = 4;
 
 /// "The analyser's message, which is ppm with a 32-bit float, percent with a 32-bit float, over range, or not fitted."
 #[derive(Clone, Copy, Debug)]
@@ -23,12 +33,12 @@ pub struct Part {
     pub humidity: u32,
     pub saturation: u32,
     pub distance: u32,
-    pub density: [u32; 4],
-    pub bag: [Message; 4],
-    pub air: [Message; 4],
+    pub density: [u32; GASES],
+    pub bag: [Message; GASES],
+    pub air: [Message; GASES],
 }
 
-/// The class, the count of parts, and fields 10 to 12: the triple, the fuel sheet with its carbon factors f1 to f3, and the limits.
+/// The class, the count of parts, and fields 10 to 13: the triple, the fuel sheet with its carbon factors f1 to f3, the limits, and the cutter's efficiencies.
 #[derive(Clone, Copy, Debug)]
 pub struct Sheet {
     pub class: u32,
@@ -39,7 +49,9 @@ pub struct Sheet {
     pub k: u32,
     pub f: [u32; 3],
     pub fuel_density: u32,
-    pub limits: [u64; 4],
+    pub limits: [u64; GASES],
+    pub methane: u32,
+    pub ethane: u32,
     pub parts: [Part; 3],
 }
 
@@ -102,7 +114,8 @@ fn judge_test(s: &Sheet) -> Result<(), Refusal> {
     field(0, 10, (100..=200).contains(&s.d) && s.wc <= 20 && s.wh <= 20)?;
     let fuel = (1..=1500).contains(&s.k) && s.f.iter().all(|&f| f <= 1000) && (600..=1000).contains(&s.fuel_density);
     field(0, 11, fuel)?;
-    field(0, 12, s.limits.iter().all(|&limit| limit <= 1_000_000_000_000))
+    field(0, 12, s.limits.iter().all(|&limit| limit <= 1_000_000_000_000))?;
+    field(0, 13, s.methane <= 1000 && s.ethane <= 1000)
 }
 
 /// Refusal 11 of a part.
@@ -118,33 +131,47 @@ fn judge_part(place: u32, p: &Part) -> Result<(), Refusal> {
     field(place, 9, p.density.iter().all(|density| (1..=2_100_000).contains(density)))
 }
 
-/// The readings of a part in units.
-struct Readings {
-    bag: [Figure; 4],
-    air: [Figure; 4],
+/// The parts that the class has, of a sheet that 10 accepts.
+pub(crate) fn used_parts(s: &Sheet) -> &[Part] {
+    &s.parts[..s.count as usize]
 }
 
-/// Refusal 12 of a part: gas by gas, the bag before the air.
+/// "'Not fitted' for the cutter reading of bag or air in any part leaves the fifth absent for the whole test" (02, M-108).
+pub(crate) fn has_nmhc(s: &Sheet) -> bool {
+    let fitted = |messages: &[Message; GASES]| !matches!(messages[NMHC], Message::NotFitted);
+    used_parts(s).iter().all(|part| fitted(&part.bag) && fitted(&part.air))
+}
+
+/// The readings of a part in units, the cutter's last where it is fitted.
+#[derive(Default)]
+struct Readings {
+    bag: Vec<Figure>,
+    air: Vec<Figure>,
+}
+
+/// Refusal 12 of a part: gas by gas, the bag before the air. That the cutter is not fitted is no fault.
 fn readings(place: u32, p: &Part) -> Result<Readings, Refusal> {
-    let nothing = [Figure::of(0, 1); 4];
-    let mut readings = Readings { bag: nothing, air: nothing };
-    for gas in 0..4 {
-        let unusable = |side| Refusal { within: gas as u32 + 1, side, ..at(12, place) };
-        readings.bag[gas] = units(p.bag[gas]).ok_or(unusable(1))?;
-        readings.air[gas] = units(p.air[gas]).ok_or(unusable(2))?;
+    let mut readings = Readings::default();
+    for gas in 0..GASES {
+        for (side, message, taken) in [(1, p.bag[gas], &mut readings.bag), (2, p.air[gas], &mut readings.air)] {
+            let unusable = Refusal { within: gas as u32 + 1, side, ..at(12, place) };
+            match message {
+                Message::NotFitted if gas == NMHC => {}
+                _ => taken.push(units(message).ok_or(unusable)?),
+            }
+        }
     }
     Ok(readings)
 }
 
-/// "G = 10 CO2 + wc CO + wh HC in bag units, Q = 2,560,000 D." Each end of G has that end of the three.
-fn g_and_q(s: &Sheet, r: &Readings) -> (Figure, i128) {
-    let [hc, co, _, co2] = r.bag;
-    (combined(&[(10, co2), (s.wc, co), (s.wh, hc)], 1), 2_560_000 * i128::from(s.d))
+/// "G = 10 CO2 + wc CO + wh HC in bag units, Q = 2,560,000 D." Each end of G has that end of the three. It "stays on total HC" (02, M-108).
+fn g_and_q(s: &Sheet, bag: &[Figure]) -> (Figure, i128) {
+    (combined(&[(10, bag[CO2]), (s.wc, bag[CO]), (s.wh, bag[HC])], 1), 2_560_000 * i128::from(s.d))
 }
 
 /// "G must be below Q", and "13 is judged on the upper end of G" (02, M-104).
-fn lean_enough(s: &Sheet, r: &Readings) -> bool {
-    let (g, q) = g_and_q(s, r);
+fn lean_enough(s: &Sheet, bag: &[Figure]) -> bool {
+    let (g, q) = g_and_q(s, bag);
     g.upper < q
 }
 
@@ -173,11 +200,29 @@ fn volume(p: &Part) -> Figure {
     Figure::of(pumped * pressure * 5863, 101_325 * (2 * i128::from(p.t) + 5463))
 }
 
+/// 19 is for "ethane efficiency .. under methane efficiency plus 500" (02, M-108).
+fn cuts_enough(s: &Sheet) -> bool {
+    s.ethane >= s.methane + 500
+}
+
+/// "(Reading without cutter x (1 - methane efficiency) - reading with cutter) / (ethane efficiency - methane efficiency)" (02, M-108), with both sides of the
+/// fraction in thousandths; "signed and as ends in 1/256 ppm".
+fn without_methane(s: &Sheet, without_cutter: Figure, with_cutter: Figure) -> Figure {
+    let [methane, ethane] = [s.methane, s.ethane].map(i128::from);
+    let outcomes = without_cutter.both().map(|without| with_cutter.both().map(|with| without * (1000 - methane) - with * 1000));
+    Figure::outermost(outcomes.as_flattened(), ethane - methane)
+}
+
+/// What the bag or the air has of every gas of the test "before the dilution correction" (02, M-108).
+fn undiluted(s: &Sheet, readings: &[Figure]) -> Vec<Figure> {
+    let fifth = has_nmhc(s).then(|| without_methane(s, readings[HC], readings[NMHC]));
+    readings[..NMHC].iter().copied().chain(fifth).collect()
+}
+
 /// "Corrected concentration, signed, 1/4,096 ppm: 16 (bag Q - air (Q - G)) / Q." Bag, air and G "take both, each at the choice that gives the outer result"
 /// (02, M-104): each on its own, so that there are eight.
 fn concentration(bag: Figure, air: Figure, g: Figure, q: i128) -> Figure {
-    let both = |figure: Figure| [figure.lower, figure.upper];
-    let outcomes = both(bag).map(|bag| both(air).map(|air| both(g).map(|g| 16 * (bag * q - air * (q - g)))));
+    let outcomes = bag.both().map(|bag| air.both().map(|air| g.both().map(|g| 16 * (bag * q - air * (q - g)))));
     Figure::outermost(outcomes.as_flattened().as_flattened(), q)
 }
 
@@ -196,24 +241,25 @@ fn rate(mass: Figure, distance: u32) -> Figure {
     mass.scaled(1000, i128::from(distance))
 }
 
-/// The volume in ml, the corrected concentrations in 1/4,096 ppm, the masses in micrograms and the rates in micrograms/km.
-#[derive(Clone, Copy, Debug)]
+/// The volume in ml, and of every gas of the test the corrected concentration in 1/4,096 ppm, the mass in micrograms and the rate in micrograms/km.
+#[derive(Clone, Debug)]
 pub struct PartResult {
     pub volume: Figure,
-    pub concentration: [Figure; 4],
-    pub mass: [Figure; 4],
-    pub rate: [Figure; 4],
+    pub concentration: Vec<Figure>,
+    pub mass: Vec<Figure>,
+    pub rate: Vec<Figure>,
 }
-
-pub(crate) const NOX: usize = 2;
 
 fn part_result(s: &Sheet, p: &Part, r: &Readings) -> PartResult {
     let volume = volume(p);
-    let (g, q) = g_and_q(s, r);
-    let concentration: [Figure; 4] = std::array::from_fn(|gas| concentration(r.bag[gas], r.air[gas], g, q));
-    let mut mass = std::array::from_fn(|gas| mass(gas_volume(volume, concentration[gas]), p.density[gas]));
+    let (g, q) = g_and_q(s, &r.bag);
+    let sides = undiluted(s, &r.bag).into_iter().zip(undiluted(s, &r.air));
+    let concentration: Vec<Figure> = sides.map(|(bag, air)| concentration(bag, air, g, q)).collect();
+    let weigh = |(concentration, density): (&Figure, &u32)| mass(gas_volume(volume, *concentration), *density);
+    let mut mass: Vec<Figure> = concentration.iter().zip(&p.density).map(weigh).collect();
     mass[NOX] = mass[NOX].times(kh(p), 65_536);
-    PartResult { volume, concentration, mass, rate: mass.map(|mass| rate(mass, p.distance)) }
+    let rate = mass.iter().map(|mass| rate(*mass, p.distance)).collect();
+    PartResult { volume, concentration, mass, rate }
 }
 
 #[derive(Clone, Copy, Debug, PartialEq, Eq)]
@@ -235,34 +281,37 @@ fn verdict(weighted: &Figure, limit: u64) -> Verdict {
     }
 }
 
-/// The weighted results in micrograms/km, the fuel in microlitres per 100 km, and as many parts as the class has.
+/// Of every gas of the test the weighted result in micrograms/km and its verdict, the fuel in microlitres per 100 km, and as many parts as the class has.
 #[derive(Clone, Debug)]
 pub struct TestResult {
     pub parts: Vec<PartResult>,
-    pub weighted: [Figure; 4],
-    pub verdicts: [Verdict; 4],
+    pub weighted: Vec<Figure>,
+    pub verdicts: Vec<Verdict>,
     pub fuel: Figure,
 }
 
-/// The readings of every part of the class, or the first of the refusals 10 to 14. Parts past the class's number are not read.
+/// The readings of every part of the class, or the first of the refusals 10 to 14 and 19. Parts past the class's number are not read.
 fn judge(s: &Sheet) -> Result<Vec<Readings>, Refusal> {
     check(weights(s.class).is_some_and(|weights| weights.len() == s.count as usize), nowhere(10))?;
-    let parts = || (1..).zip(&s.parts[..s.count as usize]);
+    let parts = || (1..).zip(used_parts(s));
     judge_test(s)?;
     parts().try_for_each(|(place, part)| judge_part(place, part))?;
     let readings = parts().map(|(place, part)| readings(place, part)).collect::<Result<Vec<Readings>, Refusal>>()?;
-    (1..).zip(&readings).try_for_each(|(place, readings)| check(lean_enough(s, readings), at(13, place)))?;
+    (1..).zip(&readings).try_for_each(|(place, readings)| check(lean_enough(s, &readings.bag), at(13, place)))?;
     parts().try_for_each(|(place, part)| check(dry_enough(part), at(14, place)))?;
+    check(!has_nmhc(s) || cuts_enough(s), nowhere(19))?;
     Ok(readings)
 }
 
-/// The full result of a test, or the first of the refusals 10 to 14.
+/// The full result of a test, or the first of the refusals 10 to 14 and 19.
 pub fn test(s: &Sheet) -> Result<TestResult, Refusal> {
     let readings = judge(s)?;
-    let parts: Vec<PartResult> = s.parts.iter().zip(&readings).map(|(part, readings)| part_result(s, part, readings)).collect();
-    let weighted = std::array::from_fn(|gas| weighted(s.class, parts.iter().map(|part| part.rate[gas])));
-    let verdicts = std::array::from_fn(|gas| verdict(&weighted[gas], s.limits[gas]));
-    Ok(TestResult { parts, weighted, verdicts, fuel: fuel(s, weighted) })
+    let parts: Vec<PartResult> = used_parts(s).iter().zip(&readings).map(|(part, readings)| part_result(s, part, readings)).collect();
+    let gases = if has_nmhc(s) { GASES } else { NMHC };
+    let weighted: Vec<Figure> = (0..gases).map(|gas| weighted(s.class, parts.iter().map(|part| part.rate[gas]))).collect();
+    let verdicts = weighted.iter().zip(s.limits).map(|(weighted, limit)| verdict(weighted, limit)).collect();
+    let fuel = fuel(s, &weighted);
+    Ok(TestResult { parts, weighted, verdicts, fuel })
 }
 
 /// The parts' rates of one gas by the weights of a class that there is.
@@ -271,10 +320,10 @@ fn weighted(class: u32, rates: impl Iterator<Item = Figure>) -> Figure {
     combined(&weights.zip(rates).collect::<Vec<_>>(), 100)
 }
 
-/// "k (f1 HC + f2 CO + f3 CO2) / (10,000 x fuel density), from the weighted ends."
-fn fuel(s: &Sheet, [hc, co, _, co2]: [Figure; 4]) -> Figure {
+/// "k (f1 HC + f2 CO + f3 CO2) / (10,000 x fuel density), from the weighted ends." It "stays on total HC" (02, M-108).
+fn fuel(s: &Sheet, weighted: &[Figure]) -> Figure {
     let [f1, f2, f3] = s.f.map(|f| s.k * f);
-    combined(&[(f1, hc), (f2, co), (f3, co2)], 10_000 * i128::from(s.fuel_density))
+    combined(&[(f1, weighted[HC]), (f2, weighted[CO]), (f3, weighted[CO2])], 10_000 * i128::from(s.fuel_density))
 }
 
 #[cfg(test)]
@@ -292,14 +341,15 @@ mod known_figures {
     }
 
     fn part() -> Part {
-        let nothing = [Message::Ppm(0.0); 4];
-        let density = [2_050_000; 4];
+        let nothing = [Message::Ppm(0.0); GASES];
+        let density = [2_050_000; GASES];
         let (pump, revolutions, pa, pi, t) = (5000, 10_000, 101_300, 0, 0);
         Part { pump, revolutions, pa, pi, t, humidity: 0, saturation: 0, distance: 4000, density, bag: nothing, air: nothing }
     }
 
     fn sheet(d: u32, wc: u32, wh: u32) -> Sheet {
-        Sheet { class: 1, count: 2, d, wc, wh, k: 1154, f: [0, 0, 273], fuel_density: 750, limits: [0; 4], parts: [part(); 3] }
+        let (k, f, fuel_density, limits, methane, ethane) = (1154, [0, 0, 273], 750, [0; GASES], 0, 1000);
+        Sheet { class: 1, count: 2, d, wc, wh, k, f, fuel_density, limits, methane, ethane, parts: [part(); 3] }
     }
 
     #[test]
@@ -308,9 +358,9 @@ mod known_figures {
         let cold = volume(&Part { t: -300, ..part() });
         assert_eq!(ends(cold), (60_266_845, 60_266_846));
         let (sheet, ppm) = (sheet(145, 0, 0), |x| units(Message::Ppm(x)).unwrap());
-        let readings = Readings { bag: [0.0, 0.0, 10.0, 14_500.0].map(ppm), air: [0.0, 0.0, 20.0, 0.0].map(ppm) };
-        let (g, q) = g_and_q(&sheet, &readings);
-        let below_zero = concentration(readings.bag[NOX], readings.air[NOX], g, q);
+        let [bag, air] = [[0.0, 0.0, 10.0, 14_500.0], [0.0, 0.0, 20.0, 0.0]].map(|side| side.map(ppm));
+        let (g, q) = g_and_q(&sheet, &bag);
+        let below_zero = concentration(bag[NOX], air[NOX], g, q);
         assert_eq!(ends(below_zero), (-32_768, -32_768));
         assert_eq!(ends(gas_volume(cold, below_zero)), (-482_135, -482_134));
         assert_eq!(ends(mass(gas_volume(cold, below_zero), 2_050_000)), (-988_377, -988_374));
@@ -329,7 +379,7 @@ mod known_figures {
         assert_eq!(ends(both), (170, 171));
         assert_eq!([169, 170, 171].map(|limit| verdict(&both, limit)), [Verdict::Fail, Verdict::Undecided, Verdict::Pass]);
         let co2 = [exactly(0), exactly(0), exactly(0), exactly(50_000_000)];
-        assert_eq!(ends(fuel(&sheet(134, 10, 10), co2)), (2_100_280, 2_100_280));
+        assert_eq!(ends(fuel(&sheet(134, 10, 10), &co2)), (2_100_280, 2_100_280));
     }
 
     /// 01's, with "1/512 ppm is 0 and 1" of 02, M-104.
@@ -338,7 +388,7 @@ mod known_figures {
         let ppm = |x| units(Message::Ppm(x)).map(ends);
         assert_eq!([512.0, 1024.0].map(|part| ppm(1.0 / part)), [Some((0, 1)); 2]);
         let full = |co| {
-            let bag = [Message::Ppm(65_536.0), Message::Ppm(co), Message::Ppm(0.0), Message::Ppm(65_536.0)];
+            let bag = [65_536.0, co, 0.0, 65_536.0, 0.0].map(Message::Ppm);
             let mut sheet = sheet(145, 5, 10);
             sheet.parts[1] = Part { bag, ..part() };
             test(&sheet)
@@ -368,18 +418,110 @@ mod known_figures {
         assert_eq!(ends(concentration(figure(1000, 1001), figure(1, 2), exactly(128), 256)), (15_984, 16_008));
         // with 16 for Q it is bag Q - air (Q - G): 32 - 7 x 15, and 48 - 5 x 13
         assert_eq!(ends(concentration(figure(2, 3), figure(5, 7), figure(1, 3), 16)), (-73, -17));
-        let readings = Readings { bag: [figure(1, 2), figure(3, 4), figure(5, 6), figure(7, 8)], air: [exactly(0); 4] };
-        assert_eq!(ends(g_and_q(&sheet(100, 2, 3), &readings).0), (79, 94));
+        let bag = [figure(1, 2), figure(3, 4), figure(5, 6), figure(7, 8)];
+        assert_eq!(ends(g_and_q(&sheet(100, 2, 3), &bag).0), (79, 94));
     }
 
     /// "13 is judged on the upper end of G": 10 x 16,777,216 + 20 x 4,411,391 is 20 short of Q.
     #[test]
     fn upper_end_of_g() {
         let nothing = exactly(0);
-        let lean = |co: Figure| {
-            lean_enough(&sheet(100, 1, 20), &Readings { bag: [exactly(4_411_391), co, nothing, exactly(16_777_216)], air: [nothing; 4] })
-        };
+        let lean = |co: Figure| lean_enough(&sheet(100, 1, 20), &[exactly(4_411_391), co, nothing, exactly(16_777_216)]);
         let between = |lower| Figure { lower, upper: lower + 1 };
         assert_eq!([exactly(19), between(18), between(19), exactly(20)].map(lean), [true, true, false, false]);
+    }
+}
+
+#[cfg(test)]
+mod without_methane {
+    //! 02's sentences on the fifth gas (M-108), worked by hand.
+
+    use super::*;
+
+    fn figure(lower: i128, upper: i128) -> Figure {
+        Figure { lower, upper }
+    }
+
+    /// Class 1, with 10 ppm of HC in every bag, of which 4 pass the cutter, and clean air.
+    fn sheet(methane: u32, ethane: u32) -> Sheet {
+        let (pump, revolutions, pa, pi, t, humidity, saturation, distance) = (2048, 100_000, 101_325, 0, 200, 0, 0, 1000);
+        let [bag, air] = [[10.0, 0.0, 0.0, 0.0, 4.0], [0.0; GASES]].map(|ppm| ppm.map(Message::Ppm));
+        let density = [20_000; GASES];
+        let part = Part { pump, revolutions, pa, pi, t, humidity, saturation, distance, density, bag, air };
+        let (d, wc, wh, k, f, fuel_density, limits) = (100, 0, 0, 1000, [1000, 0, 0], 1000, [0; GASES]);
+        Sheet { class: 1, count: 2, d, wc, wh, k, f, fuel_density, limits, methane, ethane, parts: [part; 3] }
+    }
+
+    fn with(change: impl Fn(&mut Sheet)) -> Result<TestResult, Refusal> {
+        let mut sheet = sheet(200, 1000);
+        change(&mut sheet);
+        test(&sheet)
+    }
+
+    #[test]
+    fn by_two_readings() {
+        let units = |methane, ethane, hc, cutter| super::without_methane(&sheet(methane, ethane), hc, cutter);
+        // document 003's example: 27.0 and 18.0 ppm with 0.04 and 0.98 make 8.4 ppm
+        assert_eq!(units(40, 980, figure(6912, 6912), figure(4608, 4608)), figure(2156, 2157));
+        // (10 x 800 - 4 x 1,000) / 800
+        assert_eq!(units(200, 1000, figure(10, 10), figure(4, 4)), figure(5, 5));
+        // 1,000 / 999, and below zero
+        assert_eq!(units(1, 1000, figure(0, 0), figure(1, 1)), figure(-2, -1));
+        assert_eq!(units(0, 999, figure(1, 1), figure(0, 0)), figure(1, 2));
+        // from (500 - 2,000) / 500 to (1,000 - 1,000) / 500
+        assert_eq!(units(500, 1000, figure(1, 2), figure(1, 2)), figure(-3, 0));
+        let most = figure(16_777_216, 16_777_216);
+        assert_eq!(units(0, 500, most, figure(0, 0)), figure(33_554_432, 33_554_432));
+        assert_eq!(units(0, 500, figure(0, 0), most), figure(-33_554_432, -33_554_432));
+    }
+
+    /// "The correction then takes these ends and those of G each on its own": with 16 for Q it is bag Q - air (Q - G).
+    #[test]
+    fn air_below_zero() {
+        // -32 + 5 x 13, and -16 + 7 x 15
+        assert_eq!(concentration(figure(-2, -1), figure(-7, -5), figure(1, 3), 16), figure(33, 89));
+        // of G at most half of Q, on both sides of zero
+        assert_eq!(concentration(figure(0, 0), figure(-1, 1), figure(127, 128), 256), figure(-9, 9));
+    }
+
+    /// 4,096 micrograms/km are one ppm: of HC 10, without methane 5. The fuel is a tenth of HC.
+    #[test]
+    fn five_gases() {
+        let result = with(|_| {}).unwrap();
+        let exactly = |n| figure(n, n);
+        assert_eq!(result.weighted, [40_960, 0, 0, 0, 20_480].map(exactly));
+        assert_eq!(result.verdicts, [Verdict::Fail, Verdict::Pass, Verdict::Pass, Verdict::Pass, Verdict::Fail]);
+        assert_eq!((result.parts[1].mass[NMHC], result.fuel), (exactly(20_480), exactly(4096)));
+    }
+
+    #[test]
+    fn absent() {
+        let gases = |change: &dyn Fn(&mut Sheet)| with(change).unwrap().weighted.len();
+        assert_eq!(gases(&|s| s.parts[0].bag[NMHC] = Message::NotFitted), 4);
+        assert_eq!(gases(&|s| s.parts[1].air[NMHC] = Message::NotFitted), 4);
+        assert_eq!(gases(&|s| s.parts[2].air[NMHC] = Message::NotFitted), 5);
+        let result = with(|s| s.parts[1].bag[NMHC] = Message::NotFitted).unwrap();
+        assert!(result.parts.iter().all(|part| [&part.concentration, &part.mass, &part.rate].iter().all(|gases| gases.len() == 4)));
+        assert_eq!(result.verdicts.len(), 4);
+    }
+
+    #[test]
+    fn refusals() {
+        let refused = |change: &dyn Fn(&mut Sheet)| with(change).unwrap_err();
+        let unusable = |place, gas, side| Refusal { within: gas, side, ..at(12, place) };
+        let out_of_range = |field| Refusal { within: field, ..at(11, 0) };
+        assert_eq!(refused(&|s| s.methane = 1001), out_of_range(13));
+        assert_eq!(refused(&|s| (s.ethane, s.limits[NMHC]) = (1001, 1_000_000_000_001)), out_of_range(12));
+        assert_eq!(refused(&|s| s.parts[1].air[NMHC] = Message::OverRange), unusable(2, 5, 2));
+        assert_eq!(
+            refused(&|s| (s.parts[0].bag[NMHC], s.parts[1].bag[NMHC]) = (Message::NotFitted, Message::Ppm(-1.0))),
+            unusable(2, 5, 1)
+        );
+        assert_eq!(refused(&|s| (s.parts[0].bag[NMHC], s.parts[0].air[CO2]) = (Message::OverRange, Message::OverRange)), unusable(1, 4, 2));
+        assert_eq!(refused(&|s| s.parts[0].air[HC] = Message::NotFitted), unusable(1, 1, 2));
+        assert_eq!(refused(&|s| s.ethane = 699), nowhere(19));
+        assert_eq!(refused(&|s| (s.methane, s.ethane) = (1000, 0)), nowhere(19));
+        assert!(with(|s| s.ethane = 700).is_ok());
+        assert!(with(|s| (s.ethane, s.parts[0].bag[NMHC]) = (699, Message::NotFitted)).is_ok());
     }
 }

@@ -8,6 +8,11 @@ pub struct Figure {
 }
 
 impl Figure {
+    /// The ends as two choices.
+    pub(crate) fn both(self) -> [i128; 2] {
+        [self.lower, self.upper]
+    }
+
     /// A stage that divides: rounded down, and up.
     pub(crate) fn over(lower: i128, upper: i128, divisor: i128) -> Figure {
         Figure { lower: lower.div_euclid(divisor), upper: -(-upper).div_euclid(divisor) }
@@ -25,8 +30,8 @@ impl Figure {
 
     /// "A product of ends takes the smallest and largest outcome"; then divided.
     pub(crate) fn times(self, other: Figure, divisor: i128) -> Figure {
-        let outcomes = [self.lower * other.lower, self.lower * other.upper, self.upper * other.lower, self.upper * other.upper];
-        Figure::outermost(&outcomes, divisor)
+        let outcomes = self.both().map(|one| other.both().map(|two| one * two));
+        Figure::outermost(outcomes.as_flattened(), divisor)
     }
 
     /// Multiplied by a number that is not negative, and divided.

@@ -1,14 +1,22 @@
-//! The lot sheet (02, M-105), refusals 18 and 21. Gases go HC, CO, NOx, CO2.
+//! The lot sheet (02, M-105 and M-108), refusals 18 and 21. Gases go HC, CO, NOx, CO2, NMHC.
 
-use crate::bags::Verdict;
+use crate::bags::{Verdict, GASES, NMHC};
 use crate::figure::Figure;
 use crate::{at, check, nowhere, Refusal};
 
-/// What the sheet reads of a result record: the weighted ends in micrograms/km, and the verdicts by their numbers.
+/// What the sheet reads of a result record: the weighted ends in micrograms/km, the verdicts by their numbers, and whether it has the fifth gas.
 #[derive(Clone, Copy, Debug)]
 pub struct Record {
-    pub weighted: [Figure; 4],
-    pub verdicts: [u32; 4],
+    pub weighted: [Figure; GASES],
+    pub verdicts: [u32; GASES],
+    pub has_nmhc: bool,
+}
+
+impl Record {
+    /// For the fifth gas the lot sheet, "refusal 21 too, reads only records that have it" (02, M-108).
+    fn has(&self, gas: usize) -> bool {
+        gas != NMHC || self.has_nmhc
+    }
 }
 
 /// "At most 256": the records of a list.
@@ -30,7 +38,8 @@ fn sound(weighted: &Figure) -> bool {
 
 /// Refusal 21 "with its index": the first record, from 0 on, of which any gas is not sound.
 fn judge_records(records: &[Record]) -> Result<(), Refusal> {
-    (0..).zip(records).try_for_each(|(index, record)| check(record.weighted.iter().all(sound), at(21, index)))
+    let all_sound = |record: &Record| (0..GASES).all(|gas| !record.has(gas) || sound(&record.weighted[gas]));
+    (0..).zip(records).try_for_each(|(index, record)| check(all_sound(record), at(21, index)))
 }
 
 /// The verdict of a number, as include/ylhovesko.h has them. What is neither a pass nor a fail is undecided, so that "the three counts add up to the number of
@@ -61,10 +70,11 @@ fn mean(weighted: &[Figure]) -> Option<Figure> {
     (!weighted.is_empty()).then(|| Figure::over(lower, upper, weighted.len() as i128))
 }
 
-/// "The index, from 0, of the record with the greatest upper end, earliest if several"; of an empty list "no index".
-fn worst(weighted: &[Figure]) -> Option<usize> {
-    let greatest = weighted.iter().map(|figure| figure.upper).max()?;
-    weighted.iter().position(|figure| figure.upper == greatest)
+/// "The index, from 0, of the record with the greatest upper end, earliest if several"; of an empty list "no index". It counts all records of the list.
+fn worst(records: &[Record], gas: usize) -> Option<usize> {
+    let upper = |record: &Record| record.has(gas).then_some(record.weighted[gas].upper);
+    let greatest = records.iter().filter_map(upper).max()?;
+    records.iter().position(|record| upper(record) == Some(greatest))
 }
 
 /// What the sheet gives "per gas", in the paper's order; the ends in micrograms/km.
@@ -79,34 +89,36 @@ pub struct GasSheet {
 }
 
 fn gas_sheet(records: &[Record], gas: usize) -> GasSheet {
-    let weighted: Vec<Figure> = records.iter().map(|record| record.weighted[gas]).collect();
-    let verdicts: Vec<u32> = records.iter().map(|record| record.verdicts[gas]).collect();
+    let having = || records.iter().filter(|record| record.has(gas));
+    let weighted: Vec<Figure> = having().map(|record| record.weighted[gas]).collect();
+    let verdicts: Vec<u32> = having().map(|record| record.verdicts[gas]).collect();
     GasSheet {
         passed: count(&verdicts, Verdict::Pass),
         failed: count(&verdicts, Verdict::Fail),
         undecided: count(&verdicts, Verdict::Undecided),
         sum: sum(&weighted),
         mean: mean(&weighted),
-        worst: worst(&weighted),
+        worst: worst(records, gas),
     }
 }
 
-/// The sheet of each gas, or the first of the refusals 18 and 21. "An empty list .. is accepted."
+/// The sheet of each gas over the records that have it, "none is as an empty list" (02, M-108); or the first of the refusals 18 and 21. "An empty list .. is
+/// accepted."
 ///
 /// ```
 /// use plain::figure::Figure;
 /// use plain::lot::{sheet, Record};
-/// let machine = |lower, upper, verdict| Record { weighted: [Figure { lower, upper }; 4], verdicts: [verdict; 4] };
-/// let [hc, ..] = sheet(&[machine(-4, 4, 1), machine(1, 4, 3)]).unwrap();
+/// let machine = |lower, upper, verdict| Record { weighted: [Figure { lower, upper }; 5], verdicts: [verdict; 5], has_nmhc: lower == 1 };
+/// let [hc, .., nmhc] = sheet(&[machine(-4, 4, 1), machine(1, 4, 3)]).unwrap();
 /// assert_eq!((hc.passed, hc.failed, hc.undecided), (1, 0, 1));
 /// assert_eq!((hc.sum, hc.mean), (Figure { lower: -3, upper: 8 }, Some(Figure { lower: -2, upper: 4 })));
-/// assert_eq!(hc.worst, Some(0));
+/// assert_eq!((hc.worst, nmhc.worst, nmhc.sum), (Some(0), Some(1), Figure { lower: 1, upper: 4 }));
 /// let [empty, ..] = sheet(&[]).unwrap();
 /// assert_eq!((empty.undecided, empty.mean, empty.worst), (0, None, None));
 /// let refused = sheet(&[machine(1, 1, 1), machine(2, 1, 1)]).unwrap_err();
 /// assert_eq!((refused.number, refused.at), (21, 1));
 /// ```
-pub fn sheet(records: &[Record]) -> Result<[GasSheet; 4], Refusal> {
+pub fn sheet(records: &[Record]) -> Result<[GasSheet; GASES], Refusal> {
     judge_count(records)?;
     judge_records(records)?;
     Ok(std::array::from_fn(|gas| gas_sheet(records, gas)))
@@ -122,15 +134,19 @@ mod known_lots {
         Figure { lower, upper }
     }
 
-    /// Records that have the same of every gas.
+    /// A record that has the same of every gas.
+    fn record(weighted: Figure, verdict: u32) -> Record {
+        Record { weighted: [weighted; GASES], verdicts: [verdict; GASES], has_nmhc: true }
+    }
+
     fn records(ends: &[(i128, i128)]) -> Vec<Record> {
-        ends.iter().map(|&(lower, upper)| Record { weighted: [figure(lower, upper); 4], verdicts: [3; 4] }).collect()
+        ends.iter().map(|&(lower, upper)| record(figure(lower, upper), 3)).collect()
     }
 
     /// The sum and the mean of a list, and its worst record.
     fn summed(ends: &[(i128, i128)]) -> (Figure, Option<Figure>, Option<usize>) {
-        let [hc, co, nox, co2] = sheet(&records(ends)).unwrap();
-        assert!(hc == co && hc == nox && hc == co2, "{ends:?}");
+        let [hc, others @ ..] = sheet(&records(ends)).unwrap();
+        assert_eq!(others, [hc; GASES - 1], "{ends:?}");
         (hc.sum, hc.mean, hc.worst)
     }
 
@@ -141,10 +157,11 @@ mod known_lots {
         (refusal.number, refusal.at)
     }
 
+    const NOTHING: GasSheet = GasSheet { passed: 0, failed: 0, undecided: 0, sum: Figure { lower: 0, upper: 0 }, mean: None, worst: None };
+
     #[test]
     fn empty_list() {
-        let nothing = GasSheet { passed: 0, failed: 0, undecided: 0, sum: figure(0, 0), mean: None, worst: None };
-        assert_eq!(sheet(&[]), Ok([nothing; 4]));
+        assert_eq!(sheet(&[]), Ok([NOTHING; GASES]));
     }
 
     #[test]
@@ -173,8 +190,7 @@ mod known_lots {
     #[test]
     fn verdicts_as_they_stand() {
         let of = |verdicts: &[u32]| {
-            let records: Vec<Record> =
-                verdicts.iter().map(|&number| Record { weighted: [figure(0, 0); 4], verdicts: [number; 4] }).collect();
+            let records: Vec<Record> = verdicts.iter().map(|&number| record(figure(0, 0), number)).collect();
             sheet(&records).unwrap().map(|gas| [gas.passed, gas.failed, gas.undecided])[3]
         };
         assert_eq!(of(&[1, 2, 2, 3, 3, 3]), [1, 2, 3]);
@@ -183,12 +199,29 @@ mod known_lots {
 
     #[test]
     fn gases_by_themselves() {
-        let weighted = [figure(1, 2), figure(-4, -3), figure(5, 5), figure(0, 9)];
-        let other = [figure(2, 2), figure(-4, -4), figure(5, 7), figure(0, 8)];
-        let sheets = sheet(&[Record { weighted, verdicts: [1, 2, 3, 1] }, Record { weighted: other, verdicts: [1, 1, 2, 3] }]).unwrap();
-        assert_eq!(sheets.map(|gas| gas.sum), [figure(3, 4), figure(-8, -7), figure(10, 12), figure(0, 17)]);
-        assert_eq!(sheets.map(|gas| gas.worst), [Some(0), Some(0), Some(1), Some(0)]);
-        assert_eq!(sheets.map(|gas| [gas.passed, gas.failed, gas.undecided]), [[2, 0, 0], [1, 1, 0], [0, 1, 1], [1, 0, 1]]);
+        let weighted = [figure(1, 2), figure(-4, -3), figure(5, 5), figure(0, 9), figure(-7, 6)];
+        let other = [figure(2, 2), figure(-4, -4), figure(5, 7), figure(0, 8), figure(-1, 8)];
+        let one = Record { weighted, verdicts: [1, 2, 3, 1, 2], has_nmhc: true };
+        let sheets = sheet(&[one, Record { weighted: other, verdicts: [1, 1, 2, 3, 2], has_nmhc: true }]).unwrap();
+        assert_eq!(sheets.map(|gas| gas.sum), [figure(3, 4), figure(-8, -7), figure(10, 12), figure(0, 17), figure(-8, 14)]);
+        assert_eq!(sheets.map(|gas| gas.worst), [Some(0), Some(0), Some(1), Some(0), Some(1)]);
+        let counts = [[2, 0, 0], [1, 1, 0], [0, 1, 1], [1, 0, 1], [0, 2, 0]];
+        assert_eq!(sheets.map(|gas| [gas.passed, gas.failed, gas.undecided]), counts);
+    }
+
+    /// "Reads only records that have it": the third has the worst of three, and the mean is of two.
+    #[test]
+    fn fifth_gas_of_some() {
+        let without = |record: Record| Record { has_nmhc: false, ..record };
+        let faulty =
+            without(Record { weighted: [figure(0, 1), figure(0, 1), figure(0, 1), figure(0, 1), figure(9, 8)], ..record(figure(0, 0), 1) });
+        let [hc, .., nmhc] = sheet(&[faulty, record(figure(1, 2), 2), record(figure(2, 5), 3)]).unwrap();
+        assert_eq!((hc.worst, [hc.passed, hc.failed, hc.undecided]), (Some(2), [1, 1, 1]));
+        assert_eq!((nmhc.worst, [nmhc.passed, nmhc.failed, nmhc.undecided]), (Some(2), [0, 1, 1]));
+        assert_eq!((nmhc.sum, nmhc.mean), (figure(3, 7), Some(figure(1, 4))));
+        let [co, nmhc] = sheet(&[faulty, without(record(figure(0, 9), 2))]).map(|sheets| [sheets[1], sheets[NMHC]]).unwrap();
+        assert_eq!((co.failed, nmhc), (1, NOTHING));
+        assert_eq!(sheet(&[faulty, Record { has_nmhc: true, ..faulty }]), Err(at(21, 1)));
     }
 
     #[test]

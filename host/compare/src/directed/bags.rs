@@ -1,20 +1,22 @@
 //! Directed cases of the emission sheet.
 
-use ylhovesko::bags::{Fuel, Gases, Part, Reading, Sheet, Triple};
+use ylhovesko::bags::{Bag, Efficiencies, Fuel, Gases, Part, Reading, Sheet, Triple};
 
-use super::two_ends;
-use crate::bags::{answer_text, by_plain, of_gas, Line};
+use super::{two_ends, without_methane};
+use crate::bags::{answer_text, by_plain, place, reading_of, Line};
 use crate::Told;
 
-/// A sheet, what is to be seen in it, and what 01 says of it: the refusal, and the figures that are known, each by its place in the answer.
+/// A sheet, what is to be seen in it, and what 01 or 02 says of it: the refusal, and the figures that are known, each by its place in the answer. Of a gas that
+/// the test does not have there is none.
 pub struct Directed {
     pub words: String,
     pub sheet: Sheet,
     pub told: Told,
-    pub figures: Vec<(usize, i128)>,
+    pub figures: Vec<(usize, Option<i128>)>,
 }
 
-const GASES: [&str; 4] = ["HC", "CO", "NOx", "CO2"];
+/// What is read of each gas; of the fifth it is HC behind the cutter.
+const GASES: [&str; 5] = ["HC", "CO", "NOx", "CO2", "the cutter"];
 const SIDES: [&str; 2] = ["bag", "air"];
 const MOST_LIMIT: u64 = 1_000_000_000_000;
 
@@ -30,14 +32,21 @@ fn part(place: u32) -> Part {
         humidity: 450 + 20 * place,
         saturation: 3169 - 100 * place,
         distance: 4000 + 2000 * place,
-        density: Gases { hc: 577_000, co: 1_160_000, nox: 1_910_000, co2: 1_830_000 },
-        bag: Gases {
+        density: Gases { hc: 577_000, co: 1_160_000, nox: 1_910_000, co2: 1_830_000, nmhc: 579_000 },
+        bag: Bag {
             hc: Reading::ppm(31.5 + more),
             co: Reading::ppm(812.25 - 8.0 * more),
             nox: Reading::ppm(18.125 + more),
             co2: Reading::percent(0.875 + 0.125 * more),
+            cutter: Reading::ppm(7.75 - more),
         },
-        air: Gases { hc: Reading::ppm(3.5), co: Reading::ppm(2.25), nox: Reading::ppm(0.125), co2: Reading::percent(0.039_062_5) },
+        air: Bag {
+            hc: Reading::ppm(3.5),
+            co: Reading::ppm(2.25),
+            nox: Reading::ppm(0.125),
+            co2: Reading::percent(0.039_062_5),
+            cutter: Reading::ppm(2.5),
+        },
     }
 }
 
@@ -47,7 +56,8 @@ fn usual() -> Sheet {
         count: 3,
         triple: Triple { d: 134, wc: 10, wh: 10 },
         fuel: Fuel { k: 1155, hc: 866, co: 429, co2: 273, density: 750 },
-        limits: Gases { hc: 1_000_000, co: 5_500_000, nox: 300_000, co2: 100_000_000 },
+        limits: Gases { hc: 1_000_000, co: 5_500_000, nox: 300_000, co2: 100_000_000, nmhc: 200_000 },
+        efficiencies: Efficiencies { methane: 80, ethane: 970 },
         parts: [part(1), part(2), part(3)],
     }
 }
@@ -58,7 +68,7 @@ pub(super) fn of_part(sheet: &mut Sheet, place: u32) -> &mut Part {
 
 pub(super) fn reading(sheet: &mut Sheet, [place, gas, side]: [u32; 3]) -> &mut Reading {
     let part = of_part(sheet, place);
-    of_gas(if side == 1 { &mut part.bag } else { &mut part.air }, gas)
+    reading_of(if side == 1 { &mut part.bag } else { &mut part.air }, gas)
 }
 
 pub(super) fn reading_words([place, gas, side]: [u32; 3]) -> String {
@@ -69,7 +79,7 @@ pub(super) fn reading_words([place, gas, side]: [u32; 3]) -> String {
 pub(super) fn readings() -> Vec<[u32; 3]> {
     let mut all = Vec::new();
     for place in 1..=3 {
-        for gas in 1..=4 {
+        for gas in 1..=5 {
             all.extend([[place, gas, 1], [place, gas, 2]]);
         }
     }
@@ -79,7 +89,7 @@ pub(super) fn readings() -> Vec<[u32; 3]> {
 /// A row of the table, and the numbers of its place.
 fn row([number, at, within, side]: Told) -> String {
     let place: Vec<String> = match number {
-        10 => vec![],
+        10 | 19 => vec![],
         11 => vec![at.to_string(), within.to_string()],
         12 => vec![at.to_string(), within.to_string(), side.to_string()],
         _ => vec![at.to_string()],
@@ -107,10 +117,22 @@ impl Cases {
         self.figures(words, change, &[]);
     }
 
+    /// The usual sheet, changed, with figures that are known.
     pub(super) fn figures(&mut self, words: &str, change: impl Fn(&mut Sheet), figures: &[(usize, i128)]) {
         let mut sheet = usual();
         change(&mut sheet);
-        self.0.push(Directed { words: format!("taken: {words}"), sheet, told: [0; 4], figures: figures.to_vec() });
+        let figures = figures.iter().map(|&(place, figure)| (place, Some(figure))).collect();
+        self.0.push(Directed { words: format!("taken: {words}"), sheet, told: [0; 4], figures });
+    }
+
+    /// The usual sheet, changed so that it does not have the fifth gas: there is no figure of it and no verdict.
+    pub(super) fn absent(&mut self, words: &str, change: impl Fn(&mut Sheet)) {
+        let mut sheet = usual();
+        change(&mut sheet);
+        let of_parts = (1..=sheet.count).map(|part| place::mass(part, 5)).flat_map(|mass| mass..mass + 4);
+        let places = (place::weighted(5)..=place::verdict(5)).chain(of_parts);
+        let figures = places.map(|place| (place, None)).collect();
+        self.0.push(Directed { words: format!("taken without the fifth gas: {words}"), sheet, told: [0; 4], figures });
     }
 }
 
@@ -135,27 +157,26 @@ fn classes(cases: &mut Cases) {
     for class in 1..=2 {
         cases.taken(&format!("class {class}, and nothing of a third part in its range"), |s| {
             (s.class, s.count) = (class, 2);
-            let gases = |each| Gases { hc: each, co: each, nox: each, co2: each };
-            s.parts[2] =
-                Part { temperature: i32::MIN, bag: gases(Reading::OVER_RANGE), air: gases(Reading::NOT_FITTED), ..Part::default() };
+            let [bag, air] = [Reading::OVER_RANGE, Reading::NOT_FITTED].map(|each| Bag::of([each; 5]));
+            s.parts[2] = Part { temperature: i32::MIN, bag, air, ..Part::default() };
         });
     }
 }
 
 /// A field with its number and range, and what sets it.
-struct Field<T> {
-    number: u32,
-    name: &'static str,
-    least: i64,
-    most: i64,
-    set: fn(&mut T, i64),
+pub(super) struct Field<T> {
+    pub number: u32,
+    pub name: &'static str,
+    pub least: i64,
+    pub most: i64,
+    pub set: fn(&mut T, i64),
 }
 
 const fn field<T>(number: u32, name: &'static str, least: i64, most: i64, set: fn(&mut T, i64)) -> Field<T> {
     Field { number, name, least, most, set }
 }
 
-const TEST_FIELDS: [Field<Sheet>; 12] = [
+const TEST_FIELDS: [Field<Sheet>; 13] = [
     field(10, "D", 100, 200, |s, value| s.triple.d = value as u32),
     field(10, "wc", 0, 20, |s, value| s.triple.wc = value as u32),
     field(10, "wh", 0, 20, |s, value| s.triple.wh = value as u32),
@@ -168,10 +189,13 @@ const TEST_FIELDS: [Field<Sheet>; 12] = [
     field(12, "limit of CO", 0, MOST_LIMIT as i64, |s, value| s.limits.co = value as u64),
     field(12, "limit of NOx", 0, MOST_LIMIT as i64, |s, value| s.limits.nox = value as u64),
     field(12, "limit of CO2", 0, MOST_LIMIT as i64, |s, value| s.limits.co2 = value as u64),
+    LIMIT_OF_FIFTH,
 ];
 
+pub(super) const LIMIT_OF_FIFTH: Field<Sheet> = field(12, "limit of NMHC", 0, MOST_LIMIT as i64, |s, value| s.limits.nmhc = value as u64);
+
 /// The saturation pressure with a humidity at which H stays under 30.
-const PART_FIELDS: [Field<Part>; 12] = [
+const PART_FIELDS: [Field<Part>; 13] = [
     field(1, "pump volume", 100, 20_000, |p, value| p.pump = value as u32),
     field(2, "revolutions", 1, 100_000, |p, value| p.revolutions = value as u32),
     field(3, "barometer", 80_000, 110_000, |p, value| p.barometer = value as u32),
@@ -184,7 +208,10 @@ const PART_FIELDS: [Field<Part>; 12] = [
     field(9, "density of CO", 1, 2_100_000, |p, value| p.density.co = value as u32),
     field(9, "density of NOx", 1, 2_100_000, |p, value| p.density.nox = value as u32),
     field(9, "density of CO2", 1, 2_100_000, |p, value| p.density.co2 = value as u32),
+    DENSITY_OF_FIFTH,
 ];
+
+pub(super) const DENSITY_OF_FIFTH: Field<Part> = field(9, "density of NMHC", 1, 2_100_000, |p, value| p.density.nmhc = value as u32);
 
 /// Refusal 11, and both sides of every range. One below 0 is the largest that the type holds.
 fn ranges(cases: &mut Cases) {
@@ -236,7 +263,7 @@ fn products(cases: &mut Cases) {
 }
 
 /// Messages that are unusable: over range and not fitted whatever float comes with them, a kind that no table has, and floats.
-const UNUSABLE: [(&str, u32, u32); 18] = [
+pub(super) const UNUSABLE: [(&str, u32, u32); 18] = [
     ("over range", 2, 0),
     ("not fitted", 3, 0),
     ("over range with the bits of 1.0", 2, 0x3f80_0000),
@@ -257,11 +284,11 @@ const UNUSABLE: [(&str, u32, u32); 18] = [
     ("the largest float, in percent", 1, 0x7f7f_ffff),
 ];
 
-/// Refusal 12.
+/// Refusal 12. That the cutter is not fitted is no fault.
 fn messages(cases: &mut Cases) {
     for at in readings() {
-        for (words, kind, bits) in &UNUSABLE[..2] {
-            let [place, gas, side] = at;
+        let [place, gas, side] = at;
+        for (words, kind, bits) in &UNUSABLE[..if gas == 5 { 1 } else { 2 }] {
             let change = |s: &mut Sheet| *reading(s, at) = Reading { kind: *kind, bits: *bits };
             cases.refused([12, place, gas, side], &format!("{words}, {}", reading_words(at)), change);
         }
@@ -307,7 +334,7 @@ fn dilution(cases: &mut Cases) {
     }
     cases.taken("NOx in the bag and all air count for nothing in G", |s| {
         s.parts[0].bag.nox = Reading::ppm(65_536.0);
-        s.parts[0].air = Gases::of([Reading::ppm(65_536.0); 4]);
+        s.parts[0].air = Bag::of([Reading::ppm(65_536.0); 5]);
     });
     cases.taken("G is 0: no CO2, CO and HC in the bag", |s| {
         let bag = &mut s.parts[1].bag;
@@ -338,10 +365,12 @@ fn humidity(cases: &mut Cases) {
     }
 }
 
-/// The verdicts at the ends of every weighted gas; 0 pass, 1 fail, 2 undecided, at the places 2, 5, 8 and 11.
+/// The verdicts at the ends of every weighted gas; 0 pass, 1 fail, 2 undecided.
 fn verdicts(cases: &mut Cases) {
     let (_, figures) = by_plain(&usual()).0;
-    let ends = [0, 3, 6, 9].map(|at| (figures[at] as u64, figures[at + 1] as u64));
+    let gases = [1, 2, 3, 4, 5];
+    let end = |place: usize| figures[place].expect("the usual sheet has every gas") as u64;
+    let ends = gases.map(place::weighted).map(|lower| (end(lower), end(lower + 1)));
     assert!(ends.iter().all(|(lower, upper)| lower + 1 < *upper), "the ends of the usual sheet are apart");
     let below = |words, verdict, limit: fn(u64) -> u64| (format!("{words} the lower end"), ends.map(|(lower, _)| limit(lower)), verdict);
     let above = |words, verdict, limit: fn(u64) -> u64| (format!("{words} the upper end"), ends.map(|(_, upper)| limit(upper)), verdict);
@@ -349,22 +378,22 @@ fn verdicts(cases: &mut Cases) {
     let between = [below("one above", 2, |end| end + 1), above("one below", 2, |end| end - 1)];
     let free = above("one above", 0, |end| end + 1);
     for (words, limits, verdict) in [&fail, &undecided, &between[0], &between[1], &pass, &free] {
-        let known = [2, 5, 8, 11].map(|at| (at, *verdict));
+        let known = gases.map(|gas| (place::verdict(gas), *verdict));
         cases.figures(&format!("every limit {words}"), |s| s.limits = Gases::of(*limits), &known);
     }
     for turn in 0..4 {
-        let choice = |gas: usize| [&fail, &undecided, &pass, &fail][(gas + turn) % 4];
-        let known = [0, 1, 2, 3].map(|gas| (3 * gas + 2, choice(gas).2));
-        let limits = Gases::of([0, 1, 2, 3].map(|gas| choice(gas).1[gas]));
+        let choice = |gas: u32| [&fail, &undecided, &pass, &fail][(gas as usize + 3 + turn) % 4];
+        let known = gases.map(|gas| (place::verdict(gas), choice(gas).2));
+        let limits = Gases::of(gases.map(|gas| choice(gas).1[gas as usize - 1]));
         cases.figures(&format!("fail, undecided, pass, fail, turned by {turn}"), |s| s.limits = limits, &known);
     }
     cases.figures(
         "air above the bag, every limit 0",
         |s| {
-            s.limits = Gases::of([0; 4]);
+            s.limits = Gases::default();
             s.parts.iter_mut().for_each(|part| std::mem::swap(&mut part.bag, &mut part.air));
         },
-        &[2, 5, 8, 11].map(|at| (at, 0)),
+        &gases.map(|gas| (place::verdict(gas), 0)),
     );
 }
 
@@ -380,8 +409,13 @@ fn known(cases: &mut Cases) {
         }
         s.parts[1].temperature = -300;
     };
-    let figures = [(14, 53_647_752), (15, 53_647_753), (32, 60_266_845), (33, 60_266_846), (34, -988_377), (35, -988_374)];
-    cases.figures("the known volumes, and a mass below zero", change, &figures);
+    let ends = |at: usize, lower: i128, upper: i128| [(at, lower), (at + 1, upper)];
+    let figures = [
+        ends(place::volume(1), 53_647_752, 53_647_753),
+        ends(place::volume(2), 60_266_845, 60_266_846),
+        ends(place::mass(2, 1), -988_377, -988_374),
+    ];
+    cases.figures("the known volumes, and a mass below zero", change, figures.as_flattened());
 }
 
 /// A number and a place, and what puts the fault into a sheet.
@@ -394,6 +428,7 @@ fn faults() -> Vec<Fault> {
         ([11, 0, 10, 0], Box::new(|s| s.triple.wh = 21)),
         ([11, 0, 11, 0], Box::new(|s| s.fuel.k = 1501)),
         ([11, 0, 12, 0], Box::new(|s| s.limits.hc = MOST_LIMIT + 1)),
+        ([11, 0, 13, 0], Box::new(|s| s.efficiencies.methane = 1001)),
     ];
     for place in 1..=3 {
         for Field { number, most, set, .. } in PART_FIELDS.iter().take(9) {
@@ -404,12 +439,13 @@ fn faults() -> Vec<Fault> {
         all.push(([12, at[0], at[1], at[2]], Box::new(move |s| *reading(s, at) = Reading::OVER_RANGE)));
     }
     for place in 1..=3 {
-        all.push(([13, place, 0, 0], Box::new(move |s| of_part(s, place).bag = Gases::of([Reading::ppm(65_536.0); 4]))));
+        all.push(([13, place, 0, 0], Box::new(move |s| of_part(s, place).bag = Bag::of([Reading::ppm(65_536.0); 5]))));
     }
     for place in 1..=3 {
         let humid = |p: &mut Part| (p.humidity, p.saturation) = (1000, 12_000);
         all.push(([14, place, 0, 0], Box::new(move |s| humid(of_part(s, place)))));
     }
+    all.push(([19, 0, 0, 0], Box::new(|s| s.efficiencies.ethane = s.efficiencies.methane + 499)));
     all
 }
 
@@ -429,19 +465,19 @@ fn order(cases: &mut Cases) {
 pub fn cases() -> Vec<Directed> {
     let mut cases = Cases::default();
     let groups: [fn(&mut Cases); 9] = [classes, ranges, products, messages, dilution, humidity, verdicts, known, order];
-    groups.iter().chain(&two_ends::GROUPS).for_each(|group| group(&mut cases));
+    groups.iter().chain(&two_ends::GROUPS).chain(&without_methane::GROUPS).for_each(|group| group(&mut cases));
     cases.0
 }
 
 /// The text of vectors/directed_bags.txt. Stops where the second implementation does not say what is expected.
 pub fn text() -> String {
-    let mut text = super::head(include_str!("../../../vectors/bags.txt"));
+    let mut text = super::head(include_str!("../../../vectors/M-108-bags.txt"));
     for Directed { words, sheet, told, figures } in cases() {
         let (answer, holds) = by_plain(&sheet);
         assert_eq!(answer.0, told, "{words}");
         assert!(holds, "{words}: an exact figure is not between its ends");
         figures.iter().for_each(|&(at, figure)| assert_eq!(answer.1[at], figure, "{words}: figure {at}"));
-        text += &format!("# {words}\n{} {}\n", Line(&sheet), answer_text(&answer));
+        text += &format!("# {words}\n{} {}\n", Line(&sheet), answer_text(&answer, GASES.len()));
     }
     text
 }

@@ -1,10 +1,11 @@
-//! Directed cases of the lot sheet.
+//! Directed cases of the lot sheet. Those here are of records without the fifth gas, from before there was one (02, M-105).
 
 use ylhovesko::bags::{Ends, Gases};
 use ylhovesko::lot::Record;
 
+use super::lot_of_some;
 use crate::bags::of_gas;
-use crate::lot::{answer_text, by_plain, Case, OfGas, FARTHEST};
+use crate::lot::{answer_text, by_plain, Case, OfGas, FARTHEST, OF_NONE};
 use crate::Told;
 
 /// A case, what is to be seen in it, and what 02 says of it: the refusal, or every gas.
@@ -16,18 +17,18 @@ pub struct Directed {
 }
 
 /// 10^13 micrograms/km, and what is beyond it.
-const FAR: i64 = FARTHEST;
-const BEYOND: i64 = FAR + 1;
+pub(super) const FAR: i64 = FARTHEST;
+pub(super) const BEYOND: i64 = FAR + 1;
 
 /// What has the low 31 bits of a smaller number, and as a signed number is negative.
 const TOP: i64 = 1 << 31;
 
 /// What a list has of one gas: the lower end, the upper end and the verdict of each record. Then what the sheet has: the counts, the sums, the mean's ends and
 /// the index.
-type Row<const N: usize> = (&'static str, [[i64; 3]; N], [usize; 3], [i128; 2], [i128; 2], usize);
+pub(super) type Row<const N: usize> = (&'static str, [[i64; 3]; N], [usize; 3], [i128; 2], [i128; 2], usize);
 
 /// "The record with the greatest upper end, earliest if several."
-const WORST: [Row<3>; 16] = [
+pub(super) const WORST: [Row<3>; 16] = [
     ("the greatest first, with the least lower end", [[1, 9, 1], [2, 8, 2], [3, 7, 3]], [1, 1, 1], [6, 24], [2, 8], 0),
     ("the greatest in the middle", [[-5, 2, 1], [-6, 4, 1], [-4, 3, 1]], [3, 0, 0], [-15, 9], [-5, 3], 1),
     ("the greatest last", [[0, 1, 2], [0, 2, 2], [0, 3, 2]], [0, 3, 0], [0, 6], [0, 2], 2),
@@ -68,7 +69,7 @@ const WORST: [Row<3>; 16] = [
 ];
 
 /// "The mean's ends rounded outward", of three records.
-const THIRDS: [Row<3>; 12] = [
+pub(super) const THIRDS: [Row<3>; 12] = [
     ("1/3 and 2/3", [[0, 0, 1], [0, 1, 2], [1, 1, 2]], [1, 2, 0], [1, 2], [0, 1], 1),
     ("2/3 and 4/3", [[0, 1, 3], [1, 1, 3], [1, 2, 1]], [1, 0, 2], [2, 4], [0, 2], 2),
     ("-2/3 and -1/3", [[-1, -1, 2], [-1, 0, 2], [0, 0, 3]], [0, 2, 1], [-2, -1], [-1, 0], 1),
@@ -91,7 +92,7 @@ const THIRDS: [Row<3>; 12] = [
 ];
 
 /// And of two.
-const HALVES: [Row<2>; 8] = [
+pub(super) const HALVES: [Row<2>; 8] = [
     ("1/2 at both ends", [[0, 0, 1], [1, 1, 2]], [1, 1, 0], [1, 1], [0, 1], 1),
     ("-1/2 at both ends", [[0, 0, 2], [-1, -1, 2]], [0, 2, 0], [-1, -1], [-1, 0], 0),
     ("3/2 and 5/2", [[1, 2, 3], [2, 3, 3]], [0, 0, 2], [3, 5], [1, 3], 1),
@@ -117,7 +118,7 @@ const HALVES: [Row<2>; 8] = [
 ];
 
 /// "The verdicts counted are those in the records", whatever their ends are; and every number that is neither a pass nor a fail is undecided.
-const VERDICTS: [Row<3>; 10] = [
+pub(super) const VERDICTS: [Row<3>; 10] = [
     ("passes at 10^13", [[FAR, FAR, 1], [FAR, FAR, 1], [FAR, FAR, 1]], [3, 0, 0], [30_000_000_000_000; 2], [10_000_000_000_000; 2], 0),
     (
         "fails at -10^13",
@@ -138,7 +139,7 @@ const VERDICTS: [Row<3>; 10] = [
 ];
 
 /// Ends at fault.
-const FAULTY: [(&str, [i64; 2]); 17] = [
+pub(super) const FAULTY: [(&str, [i64; 2]); 17] = [
     ("a lower end one above its upper end", [1, 0]),
     ("a lower end one above its upper end, below zero", [-4, -5]),
     ("a lower end one above its upper end, at 10^13", [FAR, FAR - 1]),
@@ -158,20 +159,32 @@ const FAULTY: [(&str, [i64; 2]); 17] = [
     ("the least and the greatest number", [i64::MIN, i64::MAX]),
 ];
 
-const GASES: [&str; 4] = ["HC", "CO", "NOx", "CO2"];
+/// The gases that every record has.
+pub(super) const GASES: [&str; 4] = ["HC", "CO", "NOx", "CO2"];
 
-/// A record that has the same of every gas.
-fn machine([lower, upper]: [i64; 2], verdict: u32) -> Record {
-    Record { weighted: Gases::of([Ends { lower, upper }; 4]), verdicts: Gases::of([verdict; 4]) }
+/// What there is of each of these gases, and nothing of the fifth.
+fn of_four<T: Default>([hc, co, nox, co2]: [T; 4]) -> Gases<T> {
+    Gases { hc, co, nox, co2, nmhc: T::default() }
+}
+
+/// A record that has the same of every gas but the fifth, which it does not have.
+pub(super) fn machine([lower, upper]: [i64; 2], verdict: u32) -> Record {
+    Record { weighted: of_four([Ends { lower, upper }; 4]), verdicts: of_four([verdict; 4]), has_nmhc: 0 }
 }
 
 /// So many machines, of which none is at fault.
-fn machines(count: usize) -> Vec<Record> {
+pub(super) fn machines(count: usize) -> Vec<Record> {
     vec![machine([1, 2], 1); count]
 }
 
+/// What the sheet has of each of their gases.
+pub(super) fn of_machines(count: usize) -> OfGas {
+    let n = count as i128;
+    OfGas { counts: [count, 0, 0], sum: [n, 2 * n], mean: Some([1, 2]), worst: Some(0) }
+}
+
 /// Puts ends into a record, by its index from 0 on and the gas's number from 1 on.
-fn put(records: &mut [Record], [index, gas]: [usize; 2], [lower, upper]: [i64; 2]) {
+pub(super) fn put(records: &mut [Record], [index, gas]: [usize; 2], [lower, upper]: [i64; 2]) {
     *of_gas(&mut records[index].weighted, gas as u32) = Ends { lower, upper };
 }
 
@@ -191,28 +204,35 @@ fn side_by_side(columns: [&Column; 4]) -> Vec<Record> {
     let of = |index: usize| {
         let each = columns.map(|column| column.records[index]);
         let weighted = each.map(|[lower, upper, _]| Ends { lower, upper });
-        Record { weighted: Gases::of(weighted), verdicts: Gases::of(each.map(|[.., verdict]| verdict as u32)) }
+        Record { weighted: of_four(weighted), verdicts: of_four(each.map(|[.., verdict]| verdict as u32)), has_nmhc: 0 }
     };
     (0..columns[0].records.len()).map(of).collect()
 }
 
 #[derive(Default)]
-struct Cases(Vec<Directed>);
+pub(super) struct Cases(Vec<Directed>);
 
 impl Cases {
     /// 18 has no place.
-    fn too_many(&mut self, words: &str, records: Vec<Record>) {
+    pub(super) fn too_many(&mut self, words: &str, records: Vec<Record>) {
         let words = format!("18: {} records{words}", records.len());
         self.0.push(Directed { words, case: Case { records }, told: [18, 0, 0, 0], gases: Vec::new() });
     }
 
-    fn faulty(&mut self, index: usize, words: &str, records: Vec<Record>) {
+    pub(super) fn faulty(&mut self, index: usize, words: &str, records: Vec<Record>) {
         let words = format!("21 of record {index}: {words}");
         self.0.push(Directed { words, case: Case { records }, told: [21, index as u32, 0, 0], gases: Vec::new() });
     }
 
+    /// A list of which no record has the fifth gas.
     fn taken(&mut self, words: &str, records: Vec<Record>, gases: [OfGas; 4]) {
-        self.0.push(Directed { words: format!("taken: {words}"), case: Case { records }, told: [0; 4], gases: gases.to_vec() });
+        self.with_fifth(words, records, gases, OF_NONE);
+    }
+
+    /// A list with what the sheet has of the first four gases, and of the fifth.
+    pub(super) fn with_fifth(&mut self, words: &str, records: Vec<Record>, gases: [OfGas; 4], fifth: OfGas) {
+        let gases = gases.into_iter().chain([fifth]).collect();
+        self.0.push(Directed { words: format!("taken: {words}"), case: Case { records }, told: [0; 4], gases });
     }
 
     /// Four columns as the gases of one list.
@@ -231,8 +251,7 @@ impl Cases {
 
 /// "An empty list gives zeros and no mean and no index, and is accepted."
 fn empty(cases: &mut Cases) {
-    let nothing = OfGas { counts: [0; 3], sum: [0; 2], mean: None, worst: None };
-    cases.taken("an empty list", Vec::new(), [nothing; 4]);
+    cases.taken("an empty list", Vec::new(), [OF_NONE; 4]);
 }
 
 /// One record is its own mean.
@@ -255,9 +274,7 @@ fn of_two_and_three(cases: &mut Cases) {
 /// "At most 256", and 18 "for more than 256", also before 21. In 64-bit floats 49 x (1 / 49) is below 1.
 fn lengths(cases: &mut Cases) {
     for count in [49, 254, 255, 256] {
-        let n = count as i128;
-        let of_gas = OfGas { counts: [count, 0, 0], sum: [n, 2 * n], mean: Some([1, 2]), worst: Some(0) };
-        cases.taken(&format!("{count} records"), machines(count), [of_gas; 4]);
+        cases.taken(&format!("{count} records"), machines(count), [of_machines(count); 4]);
     }
     for count in [257, 258, 300, 512] {
         cases.too_many("", machines(count));
@@ -331,7 +348,7 @@ fn faults(cases: &mut Cases) {
             for index in 0..3 {
                 let mut records = machines(3);
                 put(&mut records, [index, gas], ends);
-                records[index].verdicts = Gases::of([1, 2, 3, 0]);
+                records[index].verdicts = of_four([1, 2, 3, 0]);
                 cases.faulty(index, &format!("{name}, {words}"), records);
             }
         }
@@ -375,15 +392,15 @@ fn earliest(cases: &mut Cases) {
 /// All of them, in the order of the file.
 pub fn cases() -> Vec<Directed> {
     let mut cases = Cases::default();
-    let groups = [empty, single, of_two_and_three, lengths, longest, rising, faults, faults_of_lists, earliest];
-    groups.iter().for_each(|group| group(&mut cases));
+    let groups: [fn(&mut Cases); 9] = [empty, single, of_two_and_three, lengths, longest, rising, faults, faults_of_lists, earliest];
+    groups.iter().chain(&lot_of_some::GROUPS).for_each(|group| group(&mut cases));
     cases.0
 }
 
 /// The text of vectors/directed_lot.txt. Stops where the second implementation does not say what is expected.
 pub fn text() -> String {
-    let mut text = super::head(include_str!("../../../vectors/M-105-lots.txt"));
-    text += "# any other verdict number: undecided\n";
+    let mut text = super::head(include_str!("../../../vectors/M-108-lots.txt"));
+    text += "# any other verdict number: undecided; any other number than 0 for present: the record has the fifth gas\n";
     for Directed { words, case, told, gases } in cases() {
         let answer = by_plain(&case);
         assert_eq!(answer, (told, gases), "{words}");

@@ -1,28 +1,31 @@
 //! Directed cases of readings as two ends (02, M-104).
 
-use ylhovesko::bags::{Gases, Reading, Sheet, Triple};
+use ylhovesko::bags::{Bag, Efficiencies, Gases, Reading, Sheet, Triple};
 
 use super::bags::{of_part, reading, reading_words, readings, units, Cases};
+use crate::bags::place;
 
 pub(super) const GROUPS: [fn(&mut Cases); 11] =
     [messages, air_and_bag, air_and_g, volumes, nox, weights, verdicts, dilution, order, widest, uneven];
 
 /// 204.8 cubic metres at the reference state, 20,000 mg per cubic metre and a kilometre: each 1/4,096 ppm is a microgram and a microgram/km, with nothing to
-/// round, so a unit is 16. Every reading is zero, Q is 256,000,000, and CO and HC count for nothing in G.
-fn weigh(s: &mut Sheet) {
+/// round, so a unit is 16. Every reading is zero, Q is 256,000,000, and CO and HC count for nothing in G. The cutter takes away all but methane, so that the fifth
+/// gas is HC less what is read behind the cutter.
+pub(super) fn weigh(s: &mut Sheet) {
     s.triple = Triple { d: 100, wc: 0, wh: 0 };
+    s.efficiencies = Efficiencies { methane: 0, ethane: 1000 };
     for part in &mut s.parts {
-        (part.pump, part.revolutions, part.distance, part.density) = (2048, 100_000, 1000, Gases::of([20_000; 4]));
+        (part.pump, part.revolutions, part.distance, part.density) = (2048, 100_000, 1000, Gases::of([20_000; 5]));
         (part.barometer, part.depression, part.temperature, part.humidity) = (101_325, 0, 200, 0);
-        (part.bag, part.air) = (Gases::of([Reading::ppm(0.0); 4]), Gases::of([Reading::ppm(0.0); 4]));
+        (part.bag, part.air) = (Bag::of([Reading::ppm(0.0); 5]), Bag::of([Reading::ppm(0.0); 5]));
     }
 }
 
 impl Cases {
     /// A sheet that weighs, changed, with the ends of the mass and the rate of a gas in a part.
-    fn weighed(&mut self, words: &str, [place, gas]: [u32; 2], [lower, upper]: [i128; 2], change: impl Fn(&mut Sheet)) {
-        let mass = (14 + 18 * (place - 1) + 2 + 4 * (gas - 1)) as usize;
-        let known = [(mass, lower), (mass + 1, upper), (mass + 2, lower), (mass + 3, upper)];
+    pub(super) fn weighed(&mut self, words: &str, [part, gas]: [u32; 2], [lower, upper]: [i128; 2], change: impl Fn(&mut Sheet)) {
+        let [mass, rate] = [place::mass(part, gas), place::rate(part, gas)];
+        let known = [(mass, lower), (mass + 1, upper), (rate, lower), (rate + 1, upper)];
         let weighed = |s: &mut Sheet| {
             weigh(s);
             change(s);
@@ -32,10 +35,10 @@ impl Cases {
 }
 
 /// 1/512 ppm, which is 0 and 1.
-const HALF: Reading = Reading { kind: 0, bits: 0x3b00_0000 };
+pub(super) const HALF: Reading = Reading { kind: 0, bits: 0x3b00_0000 };
 
 /// Messages that are usable, at the limit, at and beside a whole unit, at a half of one and at zero, and the two ends that they have.
-const USABLE: [(&str, u32, u32, [i128; 2]); 31] = [
+pub(super) const USABLE: [(&str, u32, u32, [i128; 2]); 31] = [
     ("65,536 ppm", 0, 0x4780_0000, [16_777_216, 16_777_216]),
     ("the float before 65,536 ppm", 0, 0x477f_ffff, [16_777_215, 16_777_215]),
     ("the last float to 6.5536 percent", 1, 0x40d1_b717, [16_777_215, 16_777_216]),
@@ -160,7 +163,7 @@ fn nox(cases: &mut Cases) {
     cases.weighed("8,000,000 and 8,000,001 units of NOx in the air", [1, 3], [-94_673_840, -94_671_875], put(nothing, much));
 }
 
-/// Every stage after the mass has the ends too: 1/512 ppm of HC is a rate of 0 and 16.
+/// Every stage after the mass has the ends too: 1/512 ppm of HC is a rate of 0 and 16, and so is it without methane.
 fn weights(cases: &mut Cases) {
     for (class, place, upper) in [(1, 1, 8), (1, 2, 8), (2, 1, 5), (2, 2, 12), (3, 1, 4), (3, 2, 8), (3, 3, 4)] {
         let put = |side: u32| {
@@ -171,8 +174,9 @@ fn weights(cases: &mut Cases) {
             }
         };
         let words = format!("1/512 ppm of HC in part {place} of class {class}");
-        cases.figures(&format!("{words}, bag: 0 and {upper}"), put(1), &[(0, 0), (1, upper)]);
-        cases.figures(&format!("{words}, air: -{upper} and 0"), put(2), &[(0, -upper), (1, 0)]);
+        let both = |lower, upper| [1, 5].map(place::weighted).map(|at| [(at, lower), (at + 1, upper)]);
+        cases.figures(&format!("{words}, bag: 0 and {upper}"), put(1), both(0, upper).as_flattened());
+        cases.figures(&format!("{words}, air: -{upper} and 0"), put(2), both(-upper, 0).as_flattened());
     }
     for (side, fuel) in [(1, [0, 4]), (2, [-4, 0])] {
         let put = |s: &mut Sheet| {
@@ -181,7 +185,7 @@ fn weights(cases: &mut Cases) {
             (1..=3).for_each(|place| *reading(s, [place, 1, side]) = HALF);
         };
         let words = format!("fuel of 1/512 ppm of HC in each {}: {} and {}", ["bag", "air"][side as usize - 1], fuel[0], fuel[1]);
-        cases.figures(&words, put, &[(12, fuel[0]), (13, fuel[1])]);
+        cases.figures(&words, put, &[(place::FUEL, fuel[0]), (place::FUEL + 1, fuel[1])]);
     }
 }
 
@@ -197,11 +201,11 @@ fn verdicts(cases: &mut Cases) {
         for &(limit, verdict) in limits {
             let put = |s: &mut Sheet| {
                 weigh(s);
-                s.limits = Gases::of([limit, limit, 0, limit]);
+                s.limits = Gases::of([limit, limit, 0, limit, limit]);
                 let [gas, nothing] = [Reading::ppm(each), Reading::ppm(0.0)];
-                s.parts.iter_mut().for_each(|part| part.bag = Gases::of([gas, gas, nothing, gas]));
+                s.parts.iter_mut().for_each(|part| part.bag = Bag::of([gas, gas, nothing, gas, nothing]));
             };
-            cases.figures(&format!("{words} in every bag, limit {limit}"), put, &[2, 5, 11].map(|at| (at, verdict)));
+            cases.figures(&format!("{words} in every bag, limit {limit}"), put, &[1, 2, 4, 5].map(|gas| (place::verdict(gas), verdict)));
         }
     }
     for (limit, verdict) in [(0, 2), (11, 2), (12, 0)] {
@@ -210,7 +214,7 @@ fn verdicts(cases: &mut Cases) {
             s.limits.nox = limit;
             s.parts.iter_mut().for_each(|part| part.bag.nox = HALF);
         };
-        cases.figures(&format!("1/512 ppm of NOx in every bag, limit {limit}"), put, &[(8, verdict)]);
+        cases.figures(&format!("1/512 ppm of NOx in every bag, limit {limit}"), put, &[(place::verdict(3), verdict)]);
     }
 }
 
@@ -254,7 +258,7 @@ fn order(cases: &mut Cases) {
     let humid = |s: &mut Sheet| (s.parts[0].humidity, s.parts[0].saturation) = (1000, 12_000);
     cases.refused([13, 1, 0, 0], "G is Q - 1 and Q, before G over Q in part 2", |s| {
         close(1, 77)(s);
-        s.parts[1].bag = Gases::of([Reading::ppm(65_536.0); 4]);
+        s.parts[1].bag = Bag::of([Reading::ppm(65_536.0); 5]);
     });
     cases.refused([13, 2, 0, 0], "G is Q - 1 and Q, before H above 30 in part 1", |s| {
         close(2, 77)(s);
@@ -278,14 +282,15 @@ fn widest(cases: &mut Cases) {
         for part in &mut s.parts {
             (part.pump, part.revolutions, part.barometer, part.depression) = (20_000, 11_293, 84_643, 0);
             (part.temperature, part.humidity, part.saturation) = (34, 1000, 3900);
-            (part.distance, part.density) = (1000, Gases::of([2_100_000; 4]));
-            part.bag = Gases { nox: Reading { kind: 1, bits: 0x40d0_e562 }, ..Gases::of([HALF; 4]) };
-            part.air = Gases::of([Reading { kind: 1, bits: 0x40d1_b717 }; 4]);
+            (part.distance, part.density) = (1000, Gases::of([2_100_000; 5]));
+            part.bag = Bag { nox: Reading { kind: 1, bits: 0x40d0_e562 }, ..Bag::of([HALF; 5]) };
+            part.air = Bag::of([Reading { kind: 1, bits: 0x40d1_b717 }; 5]);
         }
     };
     let [hc, nox] = [[-27_525_120_000, -27_525_111_146], [-294_542_265, -294_516_735]];
-    let known = [(0, hc[0]), (1, hc[1]), (3, hc[0]), (4, hc[1]), (6, nox[0]), (7, nox[1])];
-    cases.figures("ends of HC that are 8,854 apart, and of NOx that are 25,530 apart", put, &known);
+    let gases = [(1, hc), (2, hc), (3, nox)].map(|(gas, ends)| (place::weighted(gas), ends));
+    let known = gases.map(|(at, [lower, upper])| [(at, lower), (at + 1, upper)]);
+    cases.figures("ends of HC that are 8,854 apart, and of NOx that are 25,530 apart", put, known.as_flattened());
 }
 
 /// Every reading a few floats off a whole number of units, no two as many, above and below it; with more in the bag, and with more in the air.
