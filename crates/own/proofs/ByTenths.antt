@@ -19,7 +19,8 @@ use Rattle.tenths.specs.Choice.{ownByTenths, marked}
 use Rattle.tenths.proofs.Sizes.{vehicle-worked}
 use Rattle.tenths.proofs.Choosing.{own-by-tenths, never-close}
 use Rattle.tenths.proofs.Marks.{in-order}
-use Rattle.own.specs.Own.{ownSecond, ownAt, judgeOwn, judgeClose, putGears, putOwn, ifAccepted, gearsAfter, Ready}
+use Rattle.refusal.specs.Judging.{ifAccepted}
+use Rattle.own.specs.Own.{ownSecond, ownAt, judgeOwn, judgeClose, putGears, putOwn, gearsAfter, Ready}
 use Rattle.own.specs.ByTenths.{secondByTenths, secondAt, judgeMarked}
 
 module _ {v : VehicleSheet} (sound : Sound v) where

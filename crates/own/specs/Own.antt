@@ -6,6 +6,7 @@ use lib.ListN.{set}
 use Rattle.refusal.specs.declared.Judged.{Judged}
 use Rattle.refusal.specs.declared.Judged.the-variants.{Accepted, Refused}
 use Rattle.refusal.specs.declared.Refusal.the-variants.{TooClose}
+use Rattle.refusal.specs.Judging.{ifAccepted}
 use Rattle.walk.specs.Walk.{inTurn, scan}
 use Rattle.house.specs.House.{Lasts, speedAt, flagsAt, stop, acceleration}
 use Rattle.shift.specs.declared.Shift.{Shift}
@@ -31,11 +32,6 @@ putGears own = inTurn (λ gears k. set gears k (own k .gear))
 
 abbrev pub putOwn : Shift → List ℕ → List ℕ → ℕ → List ℕ
 putOwn s trace = putGears (ownAt s trace)
-
--- what is new where a stage accepted; a refusal leaves the old
-abbrev pub ifAccepted : Judged → List ℕ → List ℕ → List ℕ
-ifAccepted Accepted new old = new
-ifAccepted (Refused refusal) new old = old
 
 -- the list after the comparisons: the own gears at its front, or as it was
 unfoldable pub gearsAfter : Shift → List ℕ → List ℕ → ℕ → List ℕ

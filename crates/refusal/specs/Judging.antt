@@ -2,6 +2,7 @@
 -- fails names the refusal.
 use mathlib.Core.Bool.{Bool, true, false}
 use mathlib.Core.List.{List, [], _∷_}
+use Prim.Native.Nat.{ℕ}
 use Rattle.refusal.specs.declared.Refusal.{Refusal}
 use Rattle.refusal.specs.declared.Judged.{Judged}
 use Rattle.refusal.specs.declared.Judged.the-variants.{Accepted, Refused}
@@ -28,3 +29,8 @@ judgedBy cs = checkedAll cs Accepted
 abbrev pub andThen : Judged → Judged → Judged
 andThen Accepted next = next
 andThen (Refused refusal) next = Refused refusal
+
+-- the bytes of a lent buffer: what is new where a stage accepted; a refusal leaves the old
+abbrev pub ifAccepted : Judged → List ℕ → List ℕ → List ℕ
+ifAccepted Accepted new old = new
+ifAccepted (Refused refusal) new old = old

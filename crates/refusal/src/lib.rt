@@ -1,4 +1,4 @@
-// The table of refusals (01, Refusal numbers; 16 and 17 by 02, M-103, 18 and 21 by M-105, 19 by M-108): one case for each row, in the table's order. A new row is a line of this enum, of
+// The table of refusals (01, Refusal numbers; 16 and 17 by 02, M-103, 18 and 21 by M-105, 19 by M-108, 20 by M-109): one case for each row, in the table's order. A new row is a line of this enum, of
 // specs/Table.antt and of `entry_of`, with its line in each of the two lists of that function's proof.
 ghost use mathlib.Core.Path.{_≡_};
 ghost use Rattle.refusal.specs.Table.{_given_, onSide, entryOf, numberOf, placeOf};
@@ -25,6 +25,7 @@ pub enum Refusal {
     RotatingOrSpeed,
     LotSize,
     Efficiencies,
+    Marked { second: u32 },
     LotRecord { index: u32 },
 }
 
@@ -75,6 +76,7 @@ pub fn entry_of(refusal: Refusal) -> Entry
         Refusal::RotatingOrSpeed => row(17, 0, 0, 0),
         Refusal::LotSize => row(18, 0, 0, 0),
         Refusal::Efficiencies => row(19, 0, 0, 0),
+        Refusal::Marked { second } => row(20, second, 0, 0),
         Refusal::LotRecord { index } => row(21, index, 0, 0),
     }
 }

@@ -92,6 +92,17 @@ two-stores p d m a b e l =
     ∙ set-at (p ++ (a ∷ [])) (getD d (suc m) 0) _ b (m + 1) len
     ∙ simp append-assoc (ap (λ (k : ℕ). p ++ (a ∷ b ∷ drop k d)) (sym n))
 
+-- and four
+pub four-stores : (p d : List ℕ) (m a b c e : ℕ) → length p ≡ m → m + 3 < length d
+    → set (set (set (set (p ++ drop m d) m a) (m + 1) b) (m + 2) c) (m + 3) e ≡ (p ++ (a ∷ b ∷ c ∷ e ∷ [])) ++ drop (m + 4) d
+four-stores p d m a b c e long room =
+    let next : length (p ++ (a ∷ b ∷ [])) ≡ m + 2 = simp length-append (omega (arith, long)) in
+    let third : m + 3 ≡ m + 2 + 1 = omega arith in
+    let last : m + 2 + 2 ≡ m + 4 = omega arith in
+    (λ i. set (set (two-stores p d m a b long (omega arith) i) (m + 2) c) (third i) e)
+    ∙ two-stores (p ++ (a ∷ b ∷ [])) d (m + 2) c e next (omega arith)
+    ∙ (λ i. append-assoc p (a ∷ b ∷ []) (c ∷ e ∷ []) i ++ drop (last i) d)
+
 -- a turn of a loop that writes two bytes a second over d
 pub pairs-next : (one other : ℕ → ℕ) (d : List ℕ) (k : ℕ) {row : List ℕ} {a b : ℕ} → row ≡ pairs one other k ++ drop (2 * k) d
     → a ≡ one k → b ≡ other k → 2 * k + 1 < length d → set (set row (2 * k) a) (2 * k + 1) b ≡ pairs one other (k + 1) ++ drop (2 * (k + 1)) d

@@ -4,7 +4,8 @@ use borrow.Author.Needs.{needs}
 use Rattle.refusal.specs.declared.Judged.{Judged}
 use Rattle.shift.specs.Speeds.{shiftOf}
 use Rattle.tenths.proofs.Sizes.{vehicle-last}
-use Rattle.own.specs.Own.{judgeClose, putOwn, ifAccepted, gearsAfter}
+use Rattle.refusal.specs.Judging.{ifAccepted}
+use Rattle.own.specs.Own.{judgeClose, putOwn, gearsAfter}
 use Rattle.own.proofs.ByTenths.{put-same, marked-same}
 use Rattle.own.proofs.own_gears.Statement.{statement}
 use Rattle.own.proofs.own_gears.Tie as tie
