@@ -1,6 +1,6 @@
 -- The house file (01, Trace), byte by byte: 8 bytes of head, then 4 bytes a second. Seconds count from 0 here.
 use Prim.Native.Nat.{ℕ, _+_, _*_, _/_, _%_, _≤_}
-use mathlib.Core.Bool.{Bool, _&&_}
+use mathlib.Core.Bool.{Bool, _&&_, _||_}
 use mathlib.Core.List.{List}
 use lib.ListN.{getD, length}
 use lib.Dec.{eqb, leb}
@@ -9,17 +9,17 @@ use lib.Dec.{eqb, leb}
 abbrev pub sixteenAt : List ℕ → ℕ → ℕ
 sixteenAt bytes at = getD bytes at 0 + 256 * getD bytes (at + 1) 0
 
--- 01, Trace: "version (16 bits, little-endian, 1)"
+-- 01, Trace: "version (16 bits, little-endian, 1)"; 02, M-109: "Trace version 2 has only the phase"
 abbrev pub versionOf : List ℕ → ℕ
 versionOf trace = sixteenAt trace 4
 
 -- the versions that are read
 abbrev pub readable : ℕ → Bool
-readable version = eqb version 1
+readable version = eqb version 1 || eqb version 2
 
--- the flags that a version allows: in version 1 bits 0 to 3, "others zero"; a version that is not read allows none
+-- the flags that a version allows: in version 1 bits 0 to 3, "others zero", in version 2 bits 0 and 1; a version that is not read allows none
 abbrev pub allows : ℕ → ℕ → Bool
-allows version flags = readable version && leb flags 15
+allows version flags = (eqb version 1 && leb flags 15) || (eqb version 2 && leb flags 3)
 
 -- 01, Trace: "bytes W T R, one zero byte, version"; W is 87, T 84, R 82. The head has 8 bytes
 abbrev pub headed : List ℕ → Bool
@@ -71,12 +71,20 @@ noShift flags = eqb (flags / 4 % 2) 1
 abbrev pub noFirst : ℕ → Bool
 noFirst flags = eqb (flags / 8 % 2) 1
 
+-- 02, M-109: "any such mark"
+abbrev pub marked : ℕ → Bool
+marked flags = noShift flags || noFirst flags
+
 -- the same of a second of a trace
 abbrev pub stopAt : List ℕ → ℕ → Bool
 stopAt trace k = stop (flagsAt trace k)
 
 abbrev pub noFirstAt : List ℕ → ℕ → Bool
 noFirstAt trace k = noFirst (flagsAt trace k)
+
+-- 02, M-109: whether the second makes it "a marked version 1 trace"
+abbrev pub markedAt : List ℕ → ℕ → Bool
+markedAt trace k = eqb (versionOf trace) 1 && marked (flagsAt trace k)
 
 -- 4: "speed, flags or fourth byte wrong": the speed 0 to 2,000, the flags as the version allows them, the fourth byte zero
 abbrev pub secondGood : List ℕ → ℕ → Bool

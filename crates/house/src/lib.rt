@@ -1,9 +1,11 @@
 // The house file (01, Trace), byte by byte, and what its flags say. No other crate knows where a byte stands. Seconds count from 0 here.
 ghost use mathlib.Core.Path.{_≡_};
+ghost use mathlib.Core.List.{_++_};
 ghost use Prim.Native.Nat.{_+_, _<_, _≤_};
-ghost use lib.ListN.{length};
+ghost use lib.ListN.{length, drop};
 ghost use Rattle.house.specs.House.{sixteenAt, versionOf, readable, allows, headed, countOf, Lasts};
-ghost use Rattle.house.specs.House.{speedAt, flagsAt, stop, stopAt, acceleration, deceleration, noShift, noFirst, secondGood};
+ghost use Rattle.house.specs.House.{speedAt, flagsAt, stop, stopAt, acceleration, deceleration, noShift, noFirst, marked, markedAt, secondGood};
+ghost use Rattle.house.specs.Written.{headOf, withSecond};
 
 // That a byte is below 256 is said here once, for all sums of bytes.
 fn wide(byte: u8) -> usize
@@ -82,6 +84,12 @@ pub fn no_first(flags: u8) -> bool
     flags / 8 % 2 == 1
 }
 
+fn is_marked(flags: u8) -> bool
+    ensures { λ r. ⌜ r ≡ marked flags ⌝ }
+{
+    no_shift(flags) | no_first(flags)
+}
+
 // Of a trace that has a head.
 fn version_of(trace: &[u8]) -> usize
     requires { ⌜ 8 ≤ length (now trace) ⌝ }
@@ -93,13 +101,13 @@ fn version_of(trace: &[u8]) -> usize
 fn is_readable(version: usize) -> bool
     ensures { λ r. ⌜ r ≡ readable version ⌝ }
 {
-    version == 1
+    (version == 1) | (version == 2)
 }
 
 fn is_allowed(version: usize, flags: u8) -> bool
     ensures { λ r. ⌜ r ≡ allows version flags ⌝ }
 {
-    is_readable(version) & (flags <= 15)
+    ((version == 1) & (flags <= 15)) | ((version == 2) & (flags <= 3))
 }
 
 // Of a trace with room for a head: the mark, the zero byte and the version.
@@ -111,6 +119,15 @@ pub fn has_head(trace: &[u8]) -> bool
     (trace[0] == b'W') & (trace[1] == b'T') & (trace[2] == b'R') & (trace[3] == 0) & known
 }
 
+// What refusal 20 is given for: a mark in version 1, which in version 2 would be refusal 4.
+pub fn marked_at(trace: &[u8], k: usize) -> bool
+    requires { ⌜ Lasts (now trace) (k + 1) ⌝ }
+    ensures { λ r. ⌜ r ≡ markedAt (now (trace .entry)) k ⌝ }
+{
+    let marked = is_marked(flags_at(trace, k));
+    (version_of(trace) == 1) & marked
+}
+
 // What refusal 4 asks of second k.
 pub fn is_good(trace: &[u8], k: usize) -> bool
     requires { ⌜ Lasts (now trace) (k + 1) ⌝ }
@@ -119,4 +136,31 @@ pub fn is_good(trace: &[u8], k: usize) -> bool
     let speed = speed_at(trace, k);
     let allowed = is_allowed(version_of(trace), flags_at(trace, k));
     (speed <= 2000) & allowed & (trace[4 * k + 11] == 0)
+}
+
+// The head of a file of version 2 with n seconds.
+pub fn put_head(file: &mut [u8], n: usize)
+    requires { ⌜ (8 ≤ length (now file)) × (n < 65536) ⌝ }
+    ensures { λ _. ⌜ now (file .exit) ≡ headOf n ++ drop 8 (now (file .entry)) ⌝ }
+{
+    file[0] = b'W';
+    file[1] = b'T';
+    file[2] = b'R';
+    file[3] = 0;
+    file[4] = 2;
+    file[5] = 0;
+    file[6] = (n % 256) as u8;
+    file[7] = (n / 256) as u8;
+}
+
+// Second k of such a file.
+pub fn put_second(file: &mut [u8], k: usize, speed: u16, phase: u8)
+    requires { ⌜ Lasts (now file) (k + 1) ⌝ }
+    ensures { λ _. ⌜ now (file .exit) ≡ withSecond (now (file .entry)) k speed phase ⌝ }
+{
+    let at = 4 * k + 8;
+    file[at] = (speed % 256) as u8;
+    file[at + 1] = (speed / 256) as u8;
+    file[at + 2] = phase;
+    file[at + 3] = 0;
 }

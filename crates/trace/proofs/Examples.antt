@@ -7,10 +7,10 @@ use denote.Ref.{RefT}
 use lib.ListN.{set, take}
 use Rattle.refusal.specs.declared.Judged.{Judged}
 use Rattle.refusal.specs.declared.Judged.the-variants.{Accepted, Refused}
-use Rattle.refusal.specs.declared.Refusal.the-variants.{Header, Count, Length, Second, PairCounts}
+use Rattle.refusal.specs.declared.Refusal.the-variants.{Header, Count, Length, Second, PairCounts, Marked}
 use Rattle.house.specs.House.{countOf, speedAt, flagsAt, stop, acceleration, noShift, noFirst}
 use Rattle.trace.specs.Choice.{view, chosenView}
-use Rattle.trace.specs.Judging.{countable, judgeTrace, judgePair}
+use Rattle.trace.specs.Judging.{countable, judgeTrace, judgePair, judgeMarks}
 
 -- 'W' 'T' 'R' 0, version 1, two seconds: a stop at 2.3 km/h, and 30.0 km/h in acceleration with both marks
 abbrev file : List ℕ
@@ -31,7 +31,7 @@ abbrev changed : ℕ → ℕ → Judged
 changed place byte = judgeTrace (set file place byte)
 
 -- 1: the mark, the zero byte, the version
-wrong-head : (changed 2 84 ≡ Refused Header) × (changed 3 1 ≡ Refused Header) × (changed 4 2 ≡ Refused Header) × (changed 5 1 ≡ Refused Header)
+wrong-head : (changed 2 84 ≡ Refused Header) × (changed 3 1 ≡ Refused Header) × (changed 4 3 ≡ Refused Header) × (changed 5 1 ≡ Refused Header)
 unfolding judgeTrace
 wrong-head = (refl, refl, refl, refl)
 
@@ -44,6 +44,16 @@ wrong-count = (refl, refl)
 wrong-second : (changed 13 8 ≡ Refused (Second 2)) × (changed 14 16 ≡ Refused (Second 2)) × (changed 11 1 ≡ Refused (Second 1))
 unfolding judgeTrace
 wrong-second = (refl, refl, refl)
+
+-- version 2 (02, M-109): the last second's marks are wrong there, and the phase alone is not
+second-version : (changed 4 2 ≡ Refused (Second 2)) × (judgeTrace (set (set file 4 2) 14 4) ≡ Refused (Second 2)) × (judgeTrace (set (set file 4 2) 14 3) ≡ Accepted)
+unfolding judgeTrace
+second-version = (refl, refl, refl)
+
+-- 20 (02, M-109): the first second with a mark, on a stop second too; none in version 2
+marks : (judgeMarks file 0 2 ≡ Refused (Marked 2)) × (judgeMarks (set file 10 8) 0 2 ≡ Refused (Marked 1)) × (judgeMarks (set file 14 1) 0 2 ≡ Accepted)
+    × (judgeMarks (set file 4 2) 0 2 ≡ Accepted)
+marks = (refl, refl, refl, refl)
 
 -- 200.0 km/h is 208 + 7 x 256
 fastest : (judgeTrace (set (set file 12 208) 13 7) ≡ Accepted) × (judgeTrace (set (set file 12 209) 13 7) ≡ Refused (Second 2))

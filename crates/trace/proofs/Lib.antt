@@ -1,2 +1,3 @@
 pub mod Sound
 pub mod Examples
+pub mod Versions

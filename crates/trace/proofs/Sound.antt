@@ -12,9 +12,10 @@ use Rattle.refusal.specs.declared.Refusal.the-variants.{Header, Count, Length}
 use Rattle.refusal.specs.Judging.{checked}
 use Rattle.refusal.proofs.Ranges.{both}
 use Rattle.refusal.proofs.Judging.{checked-holds, refused-not}
-use Rattle.house.specs.House.{headed, versionOf, readable, allows, countOf, speedAt, flagsAt, zeroAt}
+use Rattle.house.specs.House.{headed, versionOf, allows, countOf, speedAt, flagsAt, zeroAt}
 use Rattle.trace.specs.Judging.{countable, judgeSeconds, judgeTrace, Sound}
 use Rattle.house.specs.House.{secondGood}
+use Rattle.house.proofs.Versions.{allowed-most}
 use Rattle.walk.proofs.Walk.{all-good}
 
 -- the four checks, in order
@@ -54,5 +55,5 @@ accepted-sound trace e =
       few = leb-true n 2000 (counted .1);
       exact = eqb-true (length trace) (8 + 4 * n) (checks .exact);
       speeds = λ k l. leb-true (speedAt trace k) 2000 (ranges k l .0);
-      flags = λ k l. leb-true (flagsAt trace k) 15 (both (readable (versionOf trace)) (leb (flagsAt trace k) 15) (ranges k l .1) .1);
+      flags = λ k l. allowed-most (versionOf trace) (flagsAt trace k) (ranges k l .1);
     }

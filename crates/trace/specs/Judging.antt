@@ -1,17 +1,17 @@
--- 01, Refusal numbers, 1 to 4 and 15: one trace judged, and a pair of traces.
+-- 01, Refusal numbers, 1 to 4 and 15: one trace judged, and a pair of traces; and 20 (02, M-109).
 use Prim.Native.Nat.{ℕ, _+_, _*_, _≤_, _<_}
-use mathlib.Core.Bool.{Bool, _&&_}
+use mathlib.Core.Bool.{Bool, not}
 use mathlib.Core.Path.{_≡_}
 use mathlib.Core.List.{List}
 use lib.ListN.{length}
-use lib.Dec.{eqb, leb}
-use Rattle.refusal.specs.declared.Refusal.the-variants.{Header, Count, Length, Second, PairCounts}
+use lib.Dec.{eqb}
+use Rattle.refusal.specs.declared.Refusal.the-variants.{Header, Count, Length, Second, PairCounts, Marked}
 use Rattle.refusal.specs.declared.Judged.{Judged}
 use Rattle.refusal.specs.declared.Judged.the-variants.{Accepted, Refused}
 use Rattle.refusal.specs.Ranges.{within}
 use Rattle.refusal.specs.Judging.{checked, andThen}
 use Rattle.walk.specs.Walk.{scan}
-use Rattle.house.specs.House.{headed, countOf, speedAt, flagsAt, secondGood}
+use Rattle.house.specs.House.{headed, countOf, speedAt, flagsAt, markedAt, secondGood}
 
 -- 2: "count not 1 to 2,000"
 abbrev pub countable : ℕ → Bool
@@ -35,6 +35,10 @@ judgePair normal reduced =
     andThen (judgeTrace normal)
     (andThen (judgeTrace reduced)
     (checked (eqb (countOf normal) (countOf reduced)) PairCounts Accepted))
+
+-- 20: "a marked version 1 trace .., with its first marked second", of the n seconds from k on. Stop seconds have marks like any other
+abbrev pub judgeMarks : List ℕ → ℕ → ℕ → Judged
+judgeMarks trace = scan (λ k. not (markedAt trace k)) (λ k. Refused (Marked (k + 1))) (λ k. Accepted)
 
 -- what an accepted trace tells of its numbers
 pub record Sound (trace : List ℕ) : Type 0 where

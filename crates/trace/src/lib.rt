@@ -4,7 +4,7 @@ use refusal::Refusal;
 ghost use mathlib.Core.Path.{_≡_};
 ghost use Prim.Native.Nat.{_≤_};
 ghost use Rattle.house.specs.House.{Lasts};
-ghost use Rattle.trace.specs.Judging.{judgeSeconds, judgeTrace, judgePair};
+ghost use Rattle.trace.specs.Judging.{judgeSeconds, judgeTrace, judgePair, judgeMarks};
 ghost use Rattle.trace.specs.Choice.{Chosen};
 
 // The first wrong one of the n seconds.
@@ -58,6 +58,22 @@ pub fn judge_pair(normal: &[u8], reduced: &[u8]) -> Judged
     let n = house::count_of(normal);
     let m = house::count_of(reduced);
     refusal::check(n == m, Refusal::PairCounts, Judged::Accepted)
+}
+
+// Refusal 20, of a trace of n seconds that is taken.
+pub fn judge_marks(trace: &[u8], n: usize) -> Judged
+    requires { ⌜ (Lasts (now trace) n) × (n ≤ 2000) ⌝ }
+    ensures { λ r. ⌜ r ≡ judgeMarks (now (trace .entry)) 0 n ⌝ }
+{
+    let mut k = 0;
+    while k < n {
+        if house::marked_at(trace, k) {
+            let first = (k + 1) as u32;
+            return Judged::Refused(Refusal::Marked { second: first });
+        }
+        k += 1;
+    }
+    Judged::Accepted
 }
 
 // The one of two lent traces that the bench's reduced-speed switch names, or the empty first part of the normal one.

@@ -1,0 +1,36 @@
+-- What a version allows, and marks: version 2 has none, and version 1 without any has the flags of version 2. Assumes nothing.
+use mathlib.Core.Path.{_≡_, refl, sym}
+use mathlib.Core.Bool.{Bool, true, false, _&&_, _||_, false≢true}
+use Prim.Native.Nat.{ℕ, _/_, _%_, _≤_}
+use native.Mathlib.Omega.{arith}
+use lib.Dec.{eqb, leb}
+use borrow.Author.Tests.{leb-true, ne-eqb}
+use Rattle.house.specs.House.{allows, noShift, noFirst, marked}
+
+-- where one of two holds, so does what follows from both
+of-either : {P : Type 0} (a b : Bool) → (a || b) ≡ true → (a ≡ true → P) → (b ≡ true → P) → P
+of-either true b e p q = p refl
+of-either false b e p q = q e
+
+both-true : (a b : Bool) → (a && b) ≡ true → (a ≡ true) × (b ≡ true)
+both-true true b e = (refl, e)
+both-true false b e = absurd (false≢true e)
+
+pub allowed-most : (version flags : ℕ) → allows version flags ≡ true → flags ≤ 15
+allowed-most version flags e =
+    of-either (eqb version 1 && leb flags 15) (eqb version 2 && leb flags 3) e
+    (λ first. leb-true flags 15 (both-true (eqb version 1) (leb flags 15) first .1))
+    (λ second. let few = leb-true flags 3 (both-true (eqb version 2) (leb flags 3) second .1) in omega (arith, few))
+
+pub allowed-second : (flags : ℕ) → allows 2 flags ≡ true → flags ≤ 3
+allowed-second flags e = leb-true flags 3 e
+
+neither-set : (a b : Bool) → a ≡ false → b ≡ false → (a || b) ≡ false
+neither-set false false e f = refl
+neither-set true b e f = absurd (false≢true (sym e))
+neither-set false true e f = absurd (false≢true (sym f))
+
+-- the phase alone is no mark
+pub phase-unmarked : (flags : ℕ) → flags ≤ 3 → marked flags ≡ false
+phase-unmarked flags few =
+    neither-set (noShift flags) (noFirst flags) (ne-eqb (flags / 4 % 2) 1 (λ (e : flags / 4 % 2 ≡ 1). omega arith)) (ne-eqb (flags / 8 % 2) 1 (λ (e : flags / 8 % 2 ≡ 1). omega arith))
