@@ -1,3 +1,4 @@
 pub mod Buffer
 pub mod Rows
 pub mod Sheet
+pub mod Alike

@@ -10,7 +10,7 @@ use Rattle.refusal.specs.declared.Judged.{Judged}
 use Rattle.refusal.specs.declared.Judged.the-variants.{Accepted, Refused}
 use Rattle.refusal.specs.declared.Refusal.{Refusal}
 use Rattle.refusal.specs.declared.Refusal.the-variants.{Room}
-use Rattle.refusal.specs.Judging.{andThen}
+use Rattle.refusal.specs.Judging.{andThen, ifAccepted}
 use Rattle.refusal.proofs.Ranges.{both}
 use Rattle.refusal.proofs.Judging.{checked-holds, then-holds}
 use Rattle.house.specs.House.{countOf}
@@ -21,8 +21,8 @@ use Rattle.vehicle.specs.Sheet.{judgeVehicle, Sound as SoundVehicle}
 use Rattle.vehicle.proofs.Sound.{accepted-sound as vehicle-sound}
 use Rattle.shift.specs.Speeds.{shiftOf}
 use Rattle.shift.proofs.Sides.{shift-ranges}
-use Rattle.own.specs.Own.{judgeClose, ifAccepted, Ready}
-use Rattle.gear.specs.Sheet.{judgeRoom, judgeSheet, gearAnswer, withRow, gearBuffer}
+use Rattle.own.specs.Own.{judgeClose, Ready}
+use Rattle.gear.specs.Sheet.{marksBy, judgeRoom, judgeSheet, gearAnswer, withRow, gearBuffer}
 
 pub record Sound (trace : List ℕ) (v : VehicleSheet) (room start : ℕ) : Type 0 where
   pub of-trace : SoundTrace trace
@@ -34,9 +34,11 @@ pub sheet-sound : (trace : List ℕ) (v : VehicleSheet) (room start : ℕ) → j
 unfolding judgeSheet
 sheet-sound trace v room start e =
     let last = judgeRoom (countOf trace) room start in
-    let t = then-holds (judgeTrace trace) (andThen (judgeVehicle v) last) e in
-    let w = then-holds (judgeVehicle v) last (t .1) in
-    let here = both (leb start room) (leb (2 * countOf trace) (room - start)) (checked-holds _ Room Accepted (w .1) .0) in
+    let marks = marksBy v trace (countOf trace) in
+    let t = then-holds (judgeTrace trace) (andThen (judgeVehicle v) (andThen marks last)) e in
+    let w = then-holds (judgeVehicle v) (andThen marks last) (t .1) in
+    let m = then-holds marks last (w .1) in
+    let here = both (leb start room) (leb (2 * countOf trace) (room - start)) (checked-holds _ Room Accepted (m .1) .0) in
     record {
       of-trace = trace-sound trace (t .0);
       of-vehicle = vehicle-sound v (w .0);
@@ -50,7 +52,7 @@ sheet-ready s =
     record { ranges = shift-ranges (s .of-vehicle); lasts = omega (arith, t .exact); few = t .few; speeds = t .speeds }
 
 module _ (trace : List ℕ) (v : VehicleSheet) (buffer : List ℕ) (start : ℕ) where
-  -- a refusal of 1 to 8 is the answer; past them the comparisons decide
+  -- a refusal before 9 is the answer; past them the comparisons decide
   pub answer-by : {j : Judged} → judgeSheet trace v (length buffer) start ≡ j
       → gearAnswer trace v (length buffer) start ≡ andThen j (judgeClose (shiftOf v) trace 0 (countOf trace))
   unfolding gearAnswer

@@ -9,8 +9,10 @@ ghost use lib.ListN.{length, getD, drop};
 ghost use Rattle.row.specs.Row.{HaveSeconds};
 ghost use Rattle.vehicle.specs.Sheet.{Sound};
 ghost use Rattle.shift.specs.Speeds.{shiftOf};
-ghost use Rattle.own.specs.Own.{judgeClose, ifAccepted, Ready};
-ghost use Rattle.gear.specs.Sheet.{rowFrom, judgeSheet, gearAnswer, withRow, gearBuffer};
+ghost use Rattle.refusal.specs.Judging.{ifAccepted};
+ghost use Rattle.own.specs.Own.{judgeClose, Ready};
+ghost use Rattle.house.specs.House.{Lasts};
+ghost use Rattle.gear.specs.Sheet.{rowFrom, marksBy, judgeSheet, gearAnswer, withRow, gearBuffer};
 
 // The finished row, over all of a slice.
 fn finish(v: VehicleSheet, trace: &[u8], own: &[u8], row: &mut [u8], n: usize)
@@ -46,7 +48,18 @@ fn fill(v: VehicleSheet, trace: &[u8], part: &mut [u8], n: usize) -> Judged
     Judged::Accepted
 }
 
-// Refusals 1 to 8.
+// Refusal 20.
+fn judge_marks(v: VehicleSheet, trace: &[u8], n: usize) -> Judged
+    requires { ⌜ (Lasts (now trace) n) × (n ≤ 2000) ⌝ }
+    ensures { λ r. ⌜ r ≡ marksBy v (now (trace .entry)) n ⌝ }
+{
+    if v.rules == 2 {
+        return trace::judge_marks(trace, n);
+    }
+    Judged::Accepted
+}
+
+// Refusals 1 to 7, 20 and 8.
 fn judge_sheet(trace: &[u8], v: VehicleSheet, room: usize, start: usize) -> Judged
     ensures { λ r. ⌜ r ≡ judgeSheet (now (trace .entry)) v room start ⌝ }
 {
@@ -59,14 +72,18 @@ fn judge_sheet(trace: &[u8], v: VehicleSheet, room: usize, start: usize) -> Judg
         return second;
     };
     let n = house::count_of(trace);
+    let third = judge_marks(v, trace, n);
+    let Judged::Accepted = third else {
+        return third;
+    };
     if room < start {
         return Judged::Refused(Refusal::Room);
     }
     refusal::check(2 * n <= room - start, Refusal::Room, Judged::Accepted)
 }
 
-// The gears and the clutch of a trace's seconds, two bytes a second, into the buffer from the start on; or the first refusal, 1 to 9, and the
-// buffer as it was.
+// The gears and the clutch of a trace's seconds, two bytes a second, into the buffer from the start on; or the first refusal, 1 to 7, 20, 8
+// or 9, and the buffer as it was.
 pub fn write_gears(trace: &[u8], v: VehicleSheet, buffer: &mut [u8], start: usize) -> Judged
     ensures { λ r. ⌜ (r ≡ gearAnswer (now (trace .entry)) v (length (now (buffer .entry))) start)
         × (now (buffer .exit) ≡ gearBuffer (now (trace .entry)) v (now (buffer .entry)) start) ⌝ }

@@ -4,3 +4,5 @@ pub mod Frame
 pub mod Examples
 pub mod Fills
 pub mod Taken
+pub mod Unmarked
+pub mod Alike

@@ -9,7 +9,7 @@ use lib.ListN.{length, take, length-take, length-drop}
 use borrow.Author.Needs.{needs}
 use Rattle.refusal.specs.declared.Judged.the-variants.{Accepted}
 use Rattle.house.specs.House.{countOf}
-use Rattle.own.specs.Own.{ifAccepted}
+use Rattle.refusal.specs.Judging.{ifAccepted}
 use Rattle.gear.specs.Sheet.{judgeSheet, withRow}
 use Rattle.gear.proofs.Buffer.{part-whole, part-back}
 use Rattle.gear.proofs.Sheet.{Sound, sheet-sound, sheet-ready, answer-by, buffer-refused, buffer-back}
