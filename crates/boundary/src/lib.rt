@@ -16,6 +16,7 @@ use vehicle::VehicleSheet;
 ghost use mathlib.Core.Path.{_≡_};
 ghost use lib.ListN.{length};
 ghost use Rattle.trace.specs.Judging.{judgePair};
+ghost use Rattle.writer.specs.Writer.{writeAnswer, writeBuffer};
 ghost use Rattle.gear.specs.Sheet.{gearAnswer, gearBuffer};
 ghost use Rattle.emission.specs.Test.{testAnswer};
 ghost use Rattle.preset.specs.Preset.{petrolOf, dieselOf};
@@ -36,10 +37,10 @@ ghost use Rattle.lot_crossing.specs.Lot.{lotOut};
 pub extern "C" fn ylhovesko_version() -> u32
     ensures { λ r. ⌜ r ≡ version ⌝ }
 {
-    9
+    10
 }
 
-// The gear sheet: refusals 1 to 9, or the row in the buffer from the start on.
+// The gear sheet: refusals 1 to 9 and 20, or the row in the buffer from the start on.
 #[no_mangle]
 pub extern "C" fn ylhovesko_gears(
     trace: &[u8],
@@ -50,6 +51,14 @@ pub extern "C" fn ylhovesko_gears(
     ensures { λ r. ⌜ (r ≡ outcomeOf (gearAnswer (now (trace .entry)) vehicle (length (now (buffer .entry))) start)) × (now (buffer .exit) ≡ gearBuffer (now (trace .entry)) vehicle (now (buffer .entry)) start) ⌝ }
 {
     outcome::outcome_of(gear::write_gears(trace, vehicle, buffer, start))
+}
+
+// The writer of a trace of version 2, from seconds in pairs of speed and phase: refusals 2, 4 and 8, or the trace at the buffer's front.
+#[no_mangle]
+pub extern "C" fn ylhovesko_write_trace(seconds: &[u16], buffer: &mut [u8]) -> Outcome
+    ensures { λ r. ⌜ (r ≡ outcomeOf (writeAnswer (now (seconds .entry)) (length (now (buffer .entry))))) × (now (buffer .exit) ≡ writeBuffer (now (seconds .entry)) (now (buffer .entry))) ⌝ }
+{
+    outcome::outcome_of(writer::write_trace(seconds, buffer))
 }
 
 // A pair of traces: refusals 1 to 4 of each, and 15.
