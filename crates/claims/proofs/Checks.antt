@@ -6,16 +6,17 @@ use Prim.Native.Nat.{ℕ, zero, suc, _+_, _-_, _*_}
 use lib.ListN.{length}
 use lib.Dec.{eqb, leb}
 use Rattle.refusal.specs.declared.Refusal.{Refusal}
-use Rattle.refusal.specs.declared.Refusal.the-variants.{Header, Count, Length, Second, PowerToMass, Room, TooClose, PairCounts}
+use Rattle.refusal.specs.declared.Refusal.the-variants.{Header, Count, Length, Second, PowerToMass, Room, TooClose, PairCounts, Marked}
 use Rattle.refusal.specs.declared.Judged.{Judged}
 use Rattle.refusal.specs.declared.Judged.the-variants.{Accepted, Refused}
 use Rattle.refusal.specs.Judging.{checked, Check, checkedAll, judgedBy, andThen}
 use Rattle.refusal.specs.Ranges.{within}
 use Rattle.refusal.proofs.Judging.{checkedAll-append, checkedAll-then}
 use Rattle.walk.specs.Walk.{scan}
+use Rattle.walk.proofs.Same.{scan-good}
 use Rattle.vehicle.specs.declared.VehicleSheet.{VehicleSheet}
-use Rattle.house.specs.House.{headed, countOf}
-use Rattle.trace.specs.Judging.{countable, judgeTrace, judgePair}
+use Rattle.house.specs.House.{headed, countOf, markedAt}
+use Rattle.trace.specs.Judging.{countable, judgeTrace, judgePair, judgeMarks}
 use Rattle.house.specs.House.{secondGood}
 use Rattle.vehicle.specs.Sheet.{engineChecks, gearGood, gearRefusal, ruleChecks, mild, judgeVehicle}
 use Rattle.shift.specs.Speeds.{shiftOf}
@@ -119,24 +120,36 @@ vehicle-judged v = go (within 3 8 (v .gears)) refl
         let ended : (x y : Judged) → checkedAll (engineChecks v) x ≡ checkedAll (engineChecks v) y = λ x y. rw e in
         sym (checkedAll-then (engineChecks v) _) ∙ ended _ _ ∙ sym (checkedAll-append (engineChecks v) (ruleChecks v ++ (check (mild v) PowerToMass ∷ [])) Accepted)
 
--- ---- the gear sheet, 1 to 9
+-- ---- the gear sheet: 1 to 7, 20, 8 and 9
+abbrev unmarked : VehicleSheet → List ℕ → ℕ → Bool
+unmarked v trace k = not (eqb (v .rules) 2 && markedAt trace k)
+
+marks-judged : (v : VehicleSheet) (trace : List ℕ) (n : ℕ) → gears.marksBy v trace n ≡ judgedBy (each (unmarked v trace) (λ k. Marked (k + 1)) 0 n)
+marks-judged v trace n = go (eqb (v .rules) 2) ∙ scan-each (unmarked v trace) (λ k. Marked (k + 1)) 0 n
+  where
+    go : (b : Bool) → cond b (judgeMarks trace 0 n) Accepted ≡ scan (λ k. not (b && markedAt trace k)) (λ k. Refused (Marked (k + 1))) (λ k. Accepted) 0 n
+    go true = refl
+    go false = sym (scan-good (λ k. Refused (Marked (k + 1))) (λ k. Accepted) (λ k. true) 0 n (λ j l. refl))
+
 abbrev pub gearChecks : List ℕ → VehicleSheet → ℕ → ℕ → List Check
 gearChecks trace v room start =
     traceChecks trace
     ++ (vehicleChecks v
+    ++ (each (unmarked v trace) (λ k. Marked (k + 1)) 0 (countOf trace)
     ++ (check (leb start room && leb (2 * countOf trace) (room - start)) Room
-    ∷ each (λ k. not (ownAt (shiftOf v) trace k .close)) (λ k. TooClose (k + 1)) 0 (countOf trace)))
+    ∷ each (λ k. not (ownAt (shiftOf v) trace k .close)) (λ k. TooClose (k + 1)) 0 (countOf trace))))
 
-flat : (t v r c : List Check) → andThen (andThen (judgedBy t) (andThen (judgedBy v) (judgedBy r))) (judgedBy c) ≡ judgedBy (t ++ (v ++ (r ++ c)))
-flat t v r c = simp (then-list, append-assoc)
+flat : (t v m r c : List Check) → andThen (andThen (judgedBy t) (andThen (judgedBy v) (andThen (judgedBy m) (judgedBy r)))) (judgedBy c)
+    ≡ judgedBy (t ++ (v ++ (m ++ (r ++ c))))
+flat t v m r c = simp (then-list, append-assoc)
 
 pub gear-judged : (trace : List ℕ) (v : VehicleSheet) (room start : ℕ) → gearAnswer trace v room start ≡ judgedBy (gearChecks trace v room start)
 unfolding gearAnswer gears.judgeSheet
 gear-judged trace v room start =
     let space = check (leb start room && leb (2 * countOf trace) (room - start)) Room ∷ [] in
     let close = scan-each (λ k. not (ownAt (shiftOf v) trace k .close)) (λ k. TooClose (k + 1)) 0 (countOf trace) in
-    (λ i. andThen (andThen (trace-judged trace i) (andThen (vehicle-judged v i) (judgedBy space))) (close i))
-    ∙ flat (traceChecks trace) (vehicleChecks v) space _
+    (λ i. andThen (andThen (trace-judged trace i) (andThen (vehicle-judged v i) (andThen (marks-judged v trace (countOf trace) i) (judgedBy space)))) (close i))
+    ∙ flat (traceChecks trace) (vehicleChecks v) (each (unmarked v trace) (λ k. Marked (k + 1)) 0 (countOf trace)) space _
 
 -- ---- the emission sheet, 10 to 14 and 19
 abbrev judgedRead : Read → Judged

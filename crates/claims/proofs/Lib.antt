@@ -24,3 +24,4 @@ pub mod Widths
 pub mod Before
 pub mod ShiftTenths
 pub mod LongerSums
+pub mod Versions

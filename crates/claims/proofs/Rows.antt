@@ -19,7 +19,8 @@ use Rattle.phase.proofs.Stops.{first-length}
 use Rattle.clutch.specs.Clutch.{clutchOf}
 use Rattle.clutch.proofs.Clutch.{clutch-length, clutch-gear, clutch-at, clutch-of-most}
 use Rattle.runs.proofs.Frame.{corrected-length}
-use Rattle.own.specs.Own.{judgeClose, ifAccepted}
+use Rattle.refusal.specs.Judging.{ifAccepted}
+use Rattle.own.specs.Own.{judgeClose}
 use Rattle.gear.specs.Sheet.{judgeSheet, gearAnswer, ownOf, withRow, rowOf, gearBuffer}
 use Rattle.gear.proofs.Sheet.{Sound, sheet-sound, buffer-refused}
 use Rattle.claims.specs.Rows.{finishedRow, correctedRow}

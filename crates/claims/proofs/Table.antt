@@ -38,8 +38,8 @@ use Rattle.emission.specs.Test.{testAnswer}
 use Rattle.outcome.specs.declared.Outcome.{Outcome}
 use Rattle.outcome.specs.Outcome.{outcomeOf}
 use Rattle.crossing.specs.Sheet.{withNothing, resultOut}
-use Rattle.claims.specs.Table.{Line, outcome, plain, placed, lines, accepted, firstOf, AllHold, FirstFails, Exactly, notAfter, rising}
-use Rattle.claims.specs.Table.{ratioLine, fallLine, geared, closeLine, traceTable, pairTable, gearTable, readable, fitted, efficiency, emissionTable}
+use Rattle.claims.specs.Table.{Line, outcome, plain, placed, lines, accepted, firstOf, AllHold, FirstFails, Exactly, turn, notAfter, rising}
+use Rattle.claims.specs.Table.{ratioLine, fallLine, geared, markLine, closeLine, traceTable, pairTable, gearTable, readable, fitted, efficiency, emissionTable}
 use Rattle.claims.proofs.Checks.{check, each, pairChecks, pair-judged, gearChecks, gear-judged, judgedAnswer, emissionChecks, emission-judged}
 
 -- ---- a list of lines
@@ -119,7 +119,7 @@ both p q = rw (p, q)
 
 -- a place of the same number further on
 pub further : (number a b : ℕ) → suc a ≤ b → notAfter (outcome number a 0 0) (outcome number b 0 0) ≡ true
-further number a b h = rw (eq-eqb number number refl, lt-ltb a b h) (or-true (ltb number number))
+further number a b h = rw (eq-eqb (turn number) (turn number) refl, lt-ltb a b h) (or-true (ltb (turn number) (turn number)))
 
 -- places that count on, and what comes after them
 rising-lines : (good : ℕ → Bool) (number d k n : ℕ) (last : Outcome) (rest : List Line)
@@ -140,11 +140,23 @@ rising-last good number d n last first =
 
 -- numbers that do not fall begin at 1, and so every line has one
 number-kept : (e f : Outcome) → 1 ≤ e .number → notAfter e f ≡ true → 1 ≤ f .number
-number-kept e f some is = go (ltb (e .number) (f .number)) refl (eqb (e .number) (f .number)) refl _ is
+number-kept e f some is = go (ltb (turn (e .number)) (turn (f .number))) refl (eqb (turn (e .number)) (turn (f .number))) refl _ is
   where
-    go : (a : Bool) → ltb (e .number) (f .number) ≡ a → (b : Bool) → eqb (e .number) (f .number) ≡ b → (c : Bool) → (a || b && c) ≡ true → 1 ≤ f .number
-    go true less b same c is = omega (arith, ltb-true)
-    go false less true same c is = omega (arith, eqb-true)
+    -- every number from 1 on has a turn, and 0 has none
+    has-turn : (number : ℕ) → 1 ≤ number → 1 ≤ turn number
+    has-turn number some = either (eqb number 20) (omega arith) (omega arith)
+      where
+        either : (b : Bool) {n m : ℕ} → 1 ≤ n → 1 ≤ m → 1 ≤ cond b n m
+        either true p q = p
+        either false p q = q
+
+    of-turn : (number : ℕ) → 1 ≤ turn number → 1 ≤ number
+    of-turn zero h = absurd (omega arith)
+    of-turn (suc number) h = omega arith
+
+    go : (a : Bool) → ltb (turn (e .number)) (turn (f .number)) ≡ a → (b : Bool) → eqb (turn (e .number)) (turn (f .number)) ≡ b → (c : Bool) → (a || b && c) ≡ true → 1 ≤ f .number
+    go true less b same c is = let l = ltb-true (turn (e .number)) (turn (f .number)) less in of-turn (f .number) (omega (arith, l))
+    go false less true same c is = let l = eqb-true (turn (e .number)) (turn (f .number)) same in of-turn (f .number) (omega (arith, l, has-turn (e .number) some))
     go false less false same c is = absurd (false≢true is)
 
 pub rising-numbered : (last : Outcome) (ls : List Line) → 1 ≤ last .number → rising last ls ≡ true → Numbered ls
@@ -188,15 +200,21 @@ module _ (trace : List ℕ) (v : VehicleSheet) (room start : ℕ) where
   abbrev set : Line
   set = placed 5 14 (within 1 2 (v .rules))
 
-  -- 7, and 8 and 9 behind it
+  -- 7, and 20, 8 and 9 behind it
   abbrev seven : Line
   seven = plain 7 (leb (19 * v .power) (150 * (v .mass + 75)))
 
+  abbrev room-and-close : List Line
+  room-and-close = plain 8 (leb start room && leb (2 * countOf trace) (room - start)) ∷ lines (closeLine v trace) 0 (countOf trace)
+
   abbrev behind : List Line
-  behind = plain 8 (leb start room && leb (2 * countOf trace) (room - start)) ∷ lines (closeLine v trace) 0 (countOf trace)
+  behind = lines (markLine v trace) 0 (countOf trace) ++ room-and-close
+
+  room-rising : rising (outcome 8 0 0 0) (lines (closeLine v trace) 0 (countOf trace)) ≡ true
+  room-rising = rising-last _ 9 1 (countOf trace) (outcome 8 0 0 0) refl
 
   behind-rising : (a : ℕ) → rising (outcome 6 a 0 0) (seven ∷ behind) ≡ true
-  behind-rising a = rising-last _ 9 1 (countOf trace) (outcome 8 0 0 0) refl
+  behind-rising a = rising-lines _ 20 1 0 (countOf trace) (outcome 7 0 0 0) room-and-close refl room-rising (λ a l. room-rising)
 
   -- with the gears, where there are 3 to 8 of them, and without
   set-rising : (geared : Bool) (a : ℕ) → a < 14 → rising (outcome 5 a 0 0) (set ∷ (cond geared falls [] ++ (seven ∷ behind))) ≡ true

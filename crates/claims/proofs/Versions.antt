@@ -1,0 +1,126 @@
+-- The versions of a trace (02, M-109): version 2 leaves corrections 2 and 3 nothing to act on; a version 1 trace without marks has the row and the refusals of the
+-- version 2 trace of its seconds; and what the writer wrote is read as it was meant. Assumes nothing.
+use mathlib.Core.Path.{_≡_, refl, sym, ap, _∙_}
+use mathlib.Core.Bool.{Bool, true, false, cond, _&&_}
+use mathlib.Core.List.{List, _++_}
+use Prim.Native.Nat.{ℕ, _+_, _*_, _%_, _<_}
+use native.Mathlib.Omega.{arith}
+use lib.ListN.{length, take, drop}
+use lib.Dec.{eqb, leb}
+use borrow.Author.Tests.{le-leb, eq-eqb}
+use Rattle.refusal.specs.declared.Judged.the-variants.{Accepted, Refused}
+use Rattle.refusal.specs.declared.Refusal.the-variants.{Header, Count, Length, Second}
+use Rattle.refusal.specs.Judging.{checked, andThen, ifAccepted}
+use Rattle.refusal.proofs.Judging.{checked-holds, then-holds}
+use Rattle.refusal.proofs.Ranges.{both}
+use Rattle.walk.proofs.Same.{scan-good}
+use Rattle.house.specs.House.{headed, versionOf, allows, countOf, speedAt, flagsAt, zeroAt, marked, secondGood}
+use Rattle.house.proofs.Versions.{allowed-second, phase-unmarked}
+use Rattle.house.proofs.Written.{file-length, file-version, file-count, file-speed, file-flags, file-zero}
+use Rattle.trace.specs.Judging.{countable, judgeSeconds, judgeTrace}
+use Rattle.trace.specs.Versions.{inVersion2, Plain}
+use Rattle.trace.proofs.Sound.{seconds-good}
+use Rattle.trace.proofs.Versions.{flags-same, speeds-same, count-same, judged-same, marks-same}
+use Rattle.vehicle.specs.declared.VehicleSheet.{VehicleSheet}
+use Rattle.vehicle.specs.Sheet.{judgeVehicle}
+use Rattle.shift.specs.Speeds.{shiftOf}
+use Rattle.row.proofs.Unmarked.{first, shift, pass-idle}
+use Rattle.runs.proofs.Unmarked.{unmarked-corrected}
+use Rattle.own.specs.Own.{judgeClose}
+use Rattle.gear.specs.Sheet.{judgeRoom, judgeSheet, gearAnswer, gearBuffer, rowOf}
+use Rattle.gear.proofs.Alike.{Alike, row-alike, close-alike}
+use Rattle.writer.specs.Writer as writing
+use Rattle.writer.specs.Writer.{speedIn, phaseIn, countIn, counted, writeAnswer, written}
+use Rattle.writer.proofs.Sound.{speeds-few, phases-few}
+use Rattle.claims.specs.Versions.{Idle, SameSheet, ReadBack}
+
+-- ---- version 2
+-- an accepted one has no mark
+second-unmarked : (trace : List ℕ) → judgeTrace trace ≡ Accepted → versionOf trace ≡ 2 → (k : ℕ) → k < countOf trace → marked (flagsAt trace k) ≡ false
+second-unmarked trace e two k l =
+    let slow = leb (speedAt trace k) 2000 in
+    let known = allows (versionOf trace) (flagsAt trace k) in
+    let good = both (slow && known) (eqb (zeroAt trace k) 0) (seconds-good trace e k l) .0 in
+    let allowed = ap (λ (version : ℕ). allows version (flagsAt trace k)) (sym two) ∙ both slow known good .1 in
+    phase-unmarked (flagsAt trace k) (allowed-second (flagsAt trace k) allowed)
+
+pub idle : (trace : List ℕ) → judgeTrace trace ≡ Accepted → versionOf trace ≡ 2 → Idle trace
+idle trace e two =
+    let none = second-unmarked trace e two in
+    record {
+      second = λ row. pass-idle first trace row (countOf trace) none;
+      third = λ row. pass-idle shift trace row (countOf trace) none;
+      others = λ row. unmarked-corrected trace row (countOf trace) none;
+    }
+
+-- ---- version 1 without marks
+module _ (trace : List ℕ) (plain : Plain trace) where
+  abbrev other : List ℕ
+  other = inVersion2 trace
+
+  alike : Alike other trace
+  alike = record { flags = flags-same trace plain; speeds = speeds-same trace plain }
+
+  sheet-same : (v : VehicleSheet) (room start : ℕ) → judgeSheet other v room start ≡ judgeSheet trace v room start
+  unfolding judgeSheet
+  sheet-same v room start =
+      (λ i. andThen (judged-same trace plain i)
+      (andThen (judgeVehicle v) (andThen (cond (eqb (v .rules) 2) (marks-same trace plain i) Accepted) (judgeRoom (count-same trace plain i) room start))))
+
+  answer-same : (v : VehicleSheet) (room start : ℕ) → gearAnswer other v room start ≡ gearAnswer trace v room start
+  unfolding gearAnswer
+  answer-same v room start =
+      (λ i. andThen (sheet-same v room start i) (judgeClose (shiftOf v) other 0 (count-same trace plain i)))
+      ∙ ap (andThen (judgeSheet trace v room start)) (close-alike alike v (countOf trace))
+
+  buffer-same : (v : VehicleSheet) (buffer : List ℕ) (start : ℕ) → gearBuffer other v buffer start ≡ gearBuffer trace v buffer start
+  unfolding gearBuffer
+  buffer-same v buffer start =
+      let row = ap (rowOf v other) (count-same trace plain) ∙ row-alike alike v (countOf trace) in
+      (λ i. ifAccepted (answer-same v (length buffer) start i) (take start buffer ++ (row i ++ drop (2 * count-same trace plain i) (drop start buffer))) buffer)
+
+  pub same-sheet : SameSheet trace
+  same-sheet = record { answer = answer-same; buffer = buffer-same }
+
+-- ---- the writer
+module _ (seconds : List ℕ) (room : ℕ) (e : writeAnswer seconds room ≡ Accepted) where
+  abbrev n : ℕ
+  n = countIn seconds
+
+  past : (counted seconds ≡ true) × (andThen (writing.judgeSeconds seconds 0 n) (writing.judgeRoom n room) ≡ Accepted)
+  unfolding writeAnswer
+  past = checked-holds (counted seconds) Count (andThen (writing.judgeSeconds seconds 0 n) (writing.judgeRoom n room)) e
+
+  taken : writing.judgeSeconds seconds 0 n ≡ Accepted
+  taken = then-holds (writing.judgeSeconds seconds 0 n) (writing.judgeRoom n room) (past .1) .0
+
+  in-range : countable n ≡ true
+  in-range = both (eqb (length seconds % 2) 0) (countable n) (past .0) .1
+
+  good : (k : ℕ) → k < n → secondGood (written seconds) k ≡ true
+  good k l =
+      let speed = le-leb (speedIn seconds k) 2000 (speeds-few seconds n taken k l) in
+      let phase = le-leb (phaseIn seconds k) 3 (phases-few seconds n taken k l) in
+      (λ i. leb (file-speed (speedIn seconds) (phaseIn seconds) n k l i) 2000 && allows 2 (file-flags (speedIn seconds) (phaseIn seconds) n k l i)
+      && eqb (file-zero (speedIn seconds) (phaseIn seconds) n k l i) 0)
+      ∙ (λ i. speed i && phase i && true)
+
+  file-accepted : judgeTrace (written seconds) ≡ Accepted
+  unfolding judgeTrace
+  file-accepted =
+      let long = file-length (speedIn seconds) (phaseIn seconds) n in
+      let count = file-count (speedIn seconds) (phaseIn seconds) n in
+      let head : headed (written seconds) ≡ true = ap (λ (b : Bool). b && true) (le-leb 8 (length (written seconds)) (omega (arith, long))) in
+      let each = scan-good (λ k. Refused (Second (k + 1))) (λ k. Accepted) (secondGood (written seconds)) 0 n (λ j l. good j (omega arith)) in
+      (λ i. checked (head i) Header (checked (countable (count i)) Count (checked (eqb (long i) (8 + 4 * count i)) Length (judgeSeconds (written seconds) 0 (count i)))))
+      ∙ (λ i. checked (in-range i) Count (checked (eq-eqb (8 + 4 * n) (8 + 4 * n) refl i) Length (each i)))
+
+  pub read-back : ReadBack seconds
+  read-back =
+      record {
+        accepted = file-accepted;
+        version = file-version (speedIn seconds) (phaseIn seconds) n;
+        count = file-count (speedIn seconds) (phaseIn seconds) n;
+        speeds = λ k l. file-speed (speedIn seconds) (phaseIn seconds) n k l;
+        phases = λ k l. file-flags (speedIn seconds) (phaseIn seconds) n k l;
+      }
