@@ -1,10 +1,11 @@
 // The gear sheet as the compiled code gives it, for the cases of the file `stdin`: the examples of Annex 13 and of 004's Appendix 8, the rows of the cycle's parts, traces too close
-// to call, pairs of traces, and the rows of the corrections.
+// to call, pairs of traces, the rows of the corrections, the versions of a trace and what is written.
 mod files;
 mod output;
 mod seconds;
 mod sheet;
 mod shifts;
+mod writing;
 
 use libc::STDIN_FILENO;
 
@@ -18,6 +19,7 @@ fn show(n: [u64; 802], said: &[u8], rows: &mut [u8; 3610]) {
         3 => seconds::pair(n),
         4 => files::put_row(n, said, rows),
         5 => files::tally(n, rows),
+        7 => writing::trace(n),
         _ => files::sum(rows),
     }
 }

@@ -78,6 +78,16 @@ fn gears(row: [u8; 24], count: usize)
     }
 }
 
+pub fn bytes(buffer: &[u8]) {
+    text(b", bytes");
+    let mut k = 0;
+    while k < buffer.len() {
+        print::number(wide(buffer[k]));
+        k += 1;
+    }
+    print::end_line();
+}
+
 // The outcome, and then the gears of a few seconds, or the buffer's checksum before and after.
 pub fn row(judged: Judged, row: [u8; 24], count: usize)
     requires { ⌜ count ≤ 10 ⌝ }

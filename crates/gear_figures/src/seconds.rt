@@ -1,5 +1,5 @@
 // The gears of a few seconds, at most ten. Block 1 has them, or a pair's normal trace, and block 2 its reduced one: their count, then the speed of each, in tenths, whose
-// unit is the first letter of the phase.
+// unit is the first letter of the phase. From place 21 on it has the trace's version, then what its marks add to the flags of each second.
 ghost use Prim.Native.Nat.{_≤_};
 use super::output;
 use super::sheet::vehicle_in;
@@ -15,7 +15,9 @@ fn low(n: u64) -> u8 {
     (n % 256) as u8
 }
 
-fn phase_of(unit: u8) -> u8 {
+fn phase_of(unit: u8) -> u64
+    ensures { λ r. ⌜ r ≤ 3 ⌝ }
+{
     match unit {
         b'a' => 1,
         b'c' => 2,
@@ -24,12 +26,19 @@ fn phase_of(unit: u8) -> u8 {
     }
 }
 
+pub fn flags_of(n: [u64; 802], block: u32, second: u32) -> u64
+    ensures { λ r. ⌜ r ≤ 65538 ⌝ }
+{
+    let phase = phase_of(cases::unit_of(cases::form_at(n, block, second)));
+    phase + number_at(n, block, 20 + second % 20) % 65536
+}
+
 fn second_byte(n: [u64; 802], block: u32, second: u32, i: u32) -> u8 {
     let speed = number_at(n, block, second);
     match i {
         0 => low(speed),
         1 => low(speed / 256),
-        2 => phase_of(cases::unit_of(cases::form_at(n, block, second))),
+        2 => low(flags_of(n, block, second)),
         _ => 0,
     }
 }
@@ -40,7 +49,7 @@ fn byte_at(n: [u64; 802], block: u32, i: u32) -> u8 {
         0 => b'W',
         1 => b'T',
         2 => b'R',
-        4 => 1,
+        4 => low(number_at(n, block, 21)),
         6 => low(number_at(n, block, 1)),
         3 | 5 | 7 => 0,
         _ => second_byte(n, block, i / 4, i % 4),
