@@ -31,14 +31,14 @@ extern "C" {
  *
  *     if (ylhovesko_version() != YLHOVESKO_VERSION) return EXIT_FAILURE;
  */
-#define YLHOVESKO_VERSION 9u
+#define YLHOVESKO_VERSION 10u
 
 /* The version of the archive. */
 uint32_t ylhovesko_version(void);
 
 /*
  * What a function says of its input. number is 0 where all was accepted, and then the other three are 0 too. Else it is a row of this table, and
- * the lowest number that applies; within a number it is the first place. Seconds and gears count from 1, the records of a lot from 0.
+ * the first that applies; within a number it is the first place. Seconds and gears count from 1, the records of a lot from 0.
  *
  *   number  given when                                              at
  *   1       under 8 bytes, mark, zero byte or version wrong         -
@@ -49,7 +49,8 @@ uint32_t ylhovesko_version(void);
  *                                                                   14 rule set
  *   6       ndv not below that of the gear before                   that gear
  *   7       too much power for the mass                             -
- *   8       start past the buffer, or under 2 x count bytes there   -
+ *   20      a mark in a trace of version 1, under rule set 2        the second
+ *   8       start past the buffer, or too few bytes there           -
  *   9       a speed too close to a shift speed to call              the second
  *   10      class not 1 to 3, or wrong number of parts              -
  *   11      a value of the bag sheet out of range                   the part, 0 for the test's own fields; within: the field
@@ -90,7 +91,8 @@ typedef struct {
     /*
      * 1 for global technical regulation No. 2, 2 for chapter 2W-II of the Indian draft. Set 2 differs in cruise and deceleration alone: gear 1 where the
      * engine is slower than idle + 0.03 (rated - idle) in gear 2, that is where the speed in 0.1 km/h times ndv[1] is below 1,000 idle + 30 (rated -
-     * idle); at equality it is not. Corrections, stops, clutch and what is refused are the same for both.
+     * idle); at equality it is not. Corrections, stops and clutch are the same for both, and so is what is refused, but for 20, which set 2 alone
+     * has: there a trace of version 1 must not have a mark.
      */
     uint32_t rule_set;
 } ylhovesko_vehicle;
@@ -101,15 +103,16 @@ typedef struct {
  * The clutch is out at a stop, below 10.0 km/h, and where the engine is slower than idle + 0.03 (rated - idle) in the second's gear: where the speed in
  * 0.1 km/h times ndv of that gear is below 1,000 idle + 30 (rated - idle).
  *
- * A trace is a house file: 'W' 'T' 'R' 0, version 1 and the count of seconds (16 bits each, low byte first), then 4 bytes a second: speed in
- * 0.1 km/h (16 bits, low byte first, 0 to 2,000), flags, 0. Flags: bits 0-1 the phase (0 stop, 1 acceleration, 2 cruise, 3 deceleration), bit 2
- * "no gear-shift", bit 3 "no 1. gear".
+ * A trace is a house file: 'W' 'T' 'R' 0, version 1 or 2 and the count of seconds (16 bits each, low byte first), then 4 bytes a second: speed in
+ * 0.1 km/h (16 bits, low byte first, 0 to 2,000), flags, 0. Flags: bits 0-1 the phase (0 stop, 1 acceleration, 2 cruise, 3 deceleration); in version 1
+ * also the marks, bit 2 "no gear-shift" and bit 3 "no 1. gear". Version 2 has the phase alone, and a mark there is refused (4). A trace of version 1
+ * without a mark and the one of version 2 with the same seconds get the same row.
  *
  *     uint8_t row[2 * 2000];
  *     ylhovesko_outcome o = ylhovesko_gears(file, file_length, vehicle, row, sizeof row, 0);
  *     if (o.number != 0) fprintf(stderr, "refused: %u at %u\n", (unsigned)o.number, (unsigned)o.at);
  *
- * Refusals 1 to 9.
+ * Refusals 1 to 7, 20, 8 and 9, in this order: 8 where the row does not fit, which takes 2 x count bytes from start on.
  */
 ylhovesko_outcome ylhovesko_gears(const uint8_t *trace, size_t trace_length, ylhovesko_vehicle vehicle, uint8_t *buffer, size_t buffer_length,
                                   size_t start);
@@ -151,8 +154,27 @@ typedef struct {
 /* Refusals 5 to 7. */
 ylhovesko_tenths ylhovesko_shift_tenths(ylhovesko_vehicle vehicle);
 
+/* The most seconds of a trace, and its length in bytes with that many seconds. */
+#define YLHOVESKO_TRACE_MOST 2000u
+#define YLHOVESKO_TRACE_BYTES(count) (8u + 4u * (count))
+
 /*
- * The normal and the reduced trace of a cycle, judged as a pair. Refusals 1 to 4 of the normal one, then of the reduced one, then 15.
+ * The writer of traces: version 2, at the front of the buffer; the bytes behind it stay. The seconds are lent as pairs in one list, of each its speed in
+ * 0.1 km/h and then its phase, so seconds_length is twice their count. ylhovesko_gears and ylhovesko_judge_pair take every trace that it has written, and
+ * read the same seconds there.
+ *
+ *     const uint16_t seconds[][2] = {{0, 0}, {83, 1}, {83, 2}};
+ *     uint8_t file[YLHOVESKO_TRACE_BYTES(3)];
+ *     ylhovesko_outcome o = ylhovesko_write_trace(&seconds[0][0], 2 * 3, file, sizeof file);
+ *
+ * Refusals 2, 4 and 8, in this order: 2 for a count that is not 1 to 2,000, and for an odd seconds_length, a speed without its phase; 4 for a speed above
+ * 2,000 or a phase above 3; 8 where the trace does not fit, which takes 8 + 4 x count bytes.
+ */
+ylhovesko_outcome ylhovesko_write_trace(const uint16_t *seconds, size_t seconds_length, uint8_t *buffer, size_t buffer_length);
+
+/*
+ * The normal and the reduced trace of a cycle, judged as a pair. Refusals 1 to 4 of the normal one, then of the reduced one, then 15. The two may differ in
+ * version.
  *
  * The outcome has no place for which of the two it is. A trace that is paired with itself is judged alone, so that tells it: a refusal 1 to 4 is the
  * normal trace's where ylhovesko_judge_pair(normal, normal_length, normal, normal_length) refuses too, else the reduced one's.

@@ -656,6 +656,150 @@ static void pairs(void)
     expect("none chosen", ylhovesko_chosen(normal, sizeof normal, reduced, sizeof reduced, true) == YLHOVESKO_NEITHER);
 }
 
+/* the seconds of normal, written as version 2, which has its row by both rule sets */
+static void written(ylhovesko_vehicle vehicle)
+{
+    const uint16_t seconds[] = {0, 0, 80, 1, 2000, 2};
+    const uint8_t file[] = {'W', 'T', 'R', 0, 2, 0, 3, 0, 0, 0, 0, 0, 80, 0, 1, 0, 208, 7, 2, 0, 7};
+    uint8_t buffer[YLHOVESKO_TRACE_BYTES(3) + 1], row[6], row_of_normal[6];
+    uint32_t set;
+
+    memset(buffer, 7, sizeof buffer);
+    expect("the writer's outcome", is(ylhovesko_write_trace(seconds, 6, buffer, sizeof buffer), 0, 0));
+    expect("the trace written, and the byte behind it", memcmp(buffer, file, sizeof buffer) == 0);
+    memset(buffer, 7, sizeof buffer);
+    expect("as much room as it takes", is(ylhovesko_write_trace(seconds, 6, buffer, sizeof buffer - 1), 0, 0));
+    expect("the same trace", memcmp(buffer, file, sizeof buffer) == 0);
+    for (set = 1; set <= 2; set++) {
+        vehicle.rule_set = set;
+        expect("the trace written is read", is(ylhovesko_gears(buffer, sizeof buffer - 1, vehicle, row, sizeof row, 0), 0, 0));
+        expect("its version 1 is read", is(ylhovesko_gears(normal, sizeof normal, vehicle, row_of_normal, sizeof row_of_normal, 0), 0, 0));
+        expect("both have one row", memcmp(row, row_of_normal, sizeof row) == 0);
+    }
+}
+
+/* the longest trace, with every speed from 0.1 km/h on; then with a faulty phase in its last second, and with a second more */
+static void longest_written(void)
+{
+    enum { NUMBERS = 2 * YLHOVESKO_TRACE_MOST };
+    static uint16_t seconds[NUMBERS + 2];
+    static uint8_t buffer[YLHOVESKO_TRACE_BYTES(YLHOVESKO_TRACE_MOST)], before[sizeof buffer];
+    size_t k;
+
+    for (k = 0; k < YLHOVESKO_TRACE_MOST; k++) {
+        seconds[2 * k] = (uint16_t)(k + 1);
+        seconds[2 * k + 1] = (uint16_t)(k % 4);
+    }
+    expect("the longest trace", is(ylhovesko_write_trace(seconds, NUMBERS, buffer, sizeof buffer), 0, 0));
+    expect("it is taken", is(ylhovesko_judge_pair(buffer, sizeof buffer, buffer, sizeof buffer), 0, 0));
+    for (k = 0; k < YLHOVESKO_TRACE_MOST; k++) {
+        const uint8_t *second = buffer + YLHOVESKO_TRACE_BYTES(k);
+
+        expect("a second of it", second[0] + 256u * second[1] == k + 1 && second[2] == k % 4 && second[3] == 0);
+    }
+    memcpy(before, buffer, sizeof buffer);
+    seconds[NUMBERS - 1] = 4;
+    expect("a phase in the last second", is(ylhovesko_write_trace(seconds, NUMBERS, buffer, sizeof buffer), 4, YLHOVESKO_TRACE_MOST));
+    expect("one second too many", is(ylhovesko_write_trace(seconds, NUMBERS + 2, buffer, sizeof buffer), 2, 0));
+    expect("the longest trace after refusals", memcmp(buffer, before, sizeof buffer) == 0);
+}
+
+/* each refusal of the writer, and that each goes before the next: 2, 4, 8 */
+static void refused_writing(void)
+{
+    const uint16_t sound[] = {0, 0, 80, 1, 2000, 3}, fast[] = {0, 0, 2001, 1}, fastest[] = {UINT16_MAX, 0}, no_phase[] = {0, 0, 80, 1, 80, 4};
+    const uint16_t no_shift[] = {0, 4}, no_first[] = {0, 8}, two_faults[] = {80, UINT16_MAX, 2001, 0};
+    uint8_t buffer[YLHOVESKO_TRACE_BYTES(3)], before[sizeof buffer];
+
+    memset(buffer, 7, sizeof buffer);
+    memcpy(before, buffer, sizeof buffer);
+    expect("no second", is(ylhovesko_write_trace(sound, 0, buffer, sizeof buffer), 2, 0));
+    expect("a speed without its phase", is(ylhovesko_write_trace(sound, 5, buffer, sizeof buffer), 2, 0));
+    expect("one number", is(ylhovesko_write_trace(sound, 1, buffer, sizeof buffer), 2, 0));
+    expect("an odd length before a faulty second", is(ylhovesko_write_trace(fast, 3, buffer, 0), 2, 0));
+    expect("a speed", is(ylhovesko_write_trace(fast, 4, buffer, sizeof buffer), 4, 2));
+    expect("the largest speed", is(ylhovesko_write_trace(fastest, 2, buffer, sizeof buffer), 4, 1));
+    expect("a phase", is(ylhovesko_write_trace(no_phase, 6, buffer, sizeof buffer), 4, 3));
+    expect("no gear-shift in the phase's place", is(ylhovesko_write_trace(no_shift, 2, buffer, sizeof buffer), 4, 1));
+    expect("no 1. gear in the phase's place", is(ylhovesko_write_trace(no_first, 2, buffer, sizeof buffer), 4, 1));
+    expect("the first faulty second", is(ylhovesko_write_trace(two_faults, 4, buffer, sizeof buffer), 4, 1));
+    expect("a second before room", is(ylhovesko_write_trace(fast, 4, buffer, 0), 4, 2));
+    expect("room for the trace", is(ylhovesko_write_trace(sound, 6, buffer, sizeof buffer - 1), 8, 0));
+    expect("no room at all", is(ylhovesko_write_trace(sound, 6, buffer, 0), 8, 0));
+    expect("the buffer after refused writing", memcmp(buffer, before, sizeof buffer) == 0);
+}
+
+/* asks for the gears of normal as a trace of this version, with these flags in one second; a refusal has to leave the row as it was */
+static ylhovesko_outcome gears_of(uint8_t version, uint8_t at, uint8_t flags, ylhovesko_vehicle vehicle, size_t room)
+{
+    uint8_t trace[sizeof normal], row[6], before[6];
+    ylhovesko_outcome o;
+
+    memcpy(trace, normal, sizeof trace);
+    trace[4] = version;
+    trace[YLHOVESKO_TRACE_BYTES(at - 1) + 2] = flags;
+    memset(row, 7, sizeof row);
+    memcpy(before, row, sizeof row);
+    o = ylhovesko_gears(trace, sizeof trace, vehicle, row, room, 0);
+    expect("the row after a refused version", o.number == 0 || memcmp(row, before, sizeof row) == 0);
+    return o;
+}
+
+/* each mark and both, in each phase: taken by rule set 1 in version 1, refused by rule set 2, and in version 2 by both */
+static void marks(ylhovesko_vehicle vehicle)
+{
+    ylhovesko_vehicle by_set_2 = vehicle, nine_gears = vehicle;
+    uint8_t at, flags;
+
+    by_set_2.rule_set = 2;
+    nine_gears.rule_set = 2;
+    nine_gears.gears = 9;
+    for (at = 1; at <= 3; at++) {
+        for (flags = 4; flags <= 15; flags++) {
+            expect("a mark under rule set 1", is(gears_of(1, at, flags, vehicle, 6), 0, 0));
+            expect("a mark under rule set 2", is(gears_of(1, at, flags, by_set_2, 6), 20, at));
+            expect("a mark before room", is(gears_of(1, at, flags, by_set_2, 5), 20, at));
+            expect("the vehicle before a mark", is(gears_of(1, at, flags, nine_gears, 6), 5, 5));
+            expect("a mark in version 2", is(gears_of(2, at, flags, vehicle, 6), 4, at) && is(gears_of(2, at, flags, by_set_2, 6), 4, at));
+        }
+        expect("flags that no version has", is(gears_of(1, at, 16, by_set_2, 6), 4, at) && is(gears_of(2, at, 16, by_set_2, 6), 4, at));
+        for (flags = 0; flags <= 3; flags++)
+            expect("a phase in both versions", is(gears_of(1, at, flags, by_set_2, 6), 0, 0) && is(gears_of(2, at, flags, by_set_2, 6), 0, 0));
+    }
+    expect("version 0", is(gears_of(0, 1, 0, vehicle, 6), 1, 0));
+    expect("version 3", is(gears_of(3, 1, 0, vehicle, 6), 1, 0));
+}
+
+/* the two of a pair may differ in version, and each is judged by its own */
+static void pairs_of_versions(void)
+{
+    uint8_t version_2[sizeof normal], marked[sizeof normal];
+
+    memcpy(version_2, normal, sizeof version_2);
+    version_2[4] = 2;
+    memcpy(marked, normal, sizeof marked);
+    marked[10] = 12;
+    expect("versions 1 and 2", is(ylhovesko_judge_pair(normal, sizeof normal, version_2, sizeof version_2), 0, 0));
+    expect("versions 2 and 1", is(ylhovesko_judge_pair(version_2, sizeof version_2, normal, sizeof normal), 0, 0));
+    expect("version 2, and version 1 with marks", is(ylhovesko_judge_pair(version_2, sizeof version_2, marked, sizeof marked), 0, 0));
+    expect("the version 1 chosen", ylhovesko_chosen(version_2, sizeof version_2, marked, sizeof marked, true) == YLHOVESKO_REDUCED);
+    expect("the version 2 chosen", ylhovesko_chosen(version_2, sizeof version_2, marked, sizeof marked, false) == YLHOVESKO_NORMAL);
+    marked[4] = 2;
+    expect("a mark in the version 2 of a pair", is(ylhovesko_judge_pair(normal, sizeof normal, marked, sizeof marked), 4, 1));
+    expect("neither chosen", ylhovesko_chosen(normal, sizeof normal, marked, sizeof marked, false) == YLHOVESKO_NEITHER);
+    marked[4] = 3;
+    expect("the version 3 of a pair", is(ylhovesko_judge_pair(normal, sizeof normal, marked, sizeof marked), 1, 0));
+}
+
+static void versions(ylhovesko_vehicle vehicle)
+{
+    written(vehicle);
+    longest_written();
+    refused_writing();
+    marks(vehicle);
+    pairs_of_versions();
+}
+
 int main(void)
 {
     const ylhovesko_vehicle vehicle = {300, 200, 8000, 1200, 4, {20000, 12000, 9000, 7000, 0, 0, 0, 0}, 1};
@@ -666,6 +810,7 @@ int main(void)
     }
     rows(vehicle);
     pairs();
+    versions(vehicle);
     shift_speeds(vehicle);
     whole_tenths(vehicle);
     clutch(vehicle);

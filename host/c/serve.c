@@ -4,6 +4,7 @@
  *
  *   'v'                                 ->  version (32 bits)
  *   'g' trace, vehicle, buffer, start   ->  outcome, the buffer's bytes
+ *   'n' seconds, buffer                 ->  outcome, the buffer's bytes
  *   's' vehicle                         ->  shift speeds
  *   'w' vehicle                         ->  shift speeds in whole tenths
  *   'p' normal, reduced                 ->  outcome
@@ -16,14 +17,14 @@
  *   'd' mass, rotating mass, the three arrays -> dynamometer setting, the three arrays
  *   'l' records                         ->  lot sheet
  *
- * where a slice is its length (64 bits) and its bytes, a slice of records its count (64 bits) and its bytes, and the masses and the speed of a
- * dynamometer are 32 bits each.
+ * where a slice is its length (64 bits) and its bytes, a slice of seconds or records its count (64 bits) and its bytes, and the masses and the speed of
+ * a dynamometer are 32 bits each.
  */
 #include <stdio.h>
 
 #include "ylhovesko.h"
 
-enum { MOST = 1 << 20, MOST_RECORDS = 1 << 17 };
+enum { MOST = 1 << 20, MOST_RECORDS = 1 << 17, MOST_NUMBERS = 1 << 20 };
 
 struct slice {
     uint64_t length;
@@ -32,8 +33,9 @@ struct slice {
 
 static struct slice one, two;
 
-/* far more than a lot may have, so that one with too many is refused by the core and not here */
+/* far more than a lot or a trace may have, so that one with too many is refused by the core and not here */
 static ylhovesko_record records[MOST_RECORDS];
+static uint16_t numbers[MOST_NUMBERS];
 
 static int take(void *to, size_t length)
 {
@@ -67,6 +69,17 @@ static int gears(void)
         return 0;
     o = ylhovesko_gears(one.bytes, (size_t)one.length, vehicle, two.bytes, (size_t)two.length, (size_t)start);
     return give(&o, sizeof o) && give(two.bytes, (size_t)two.length);
+}
+
+static int write_trace(void)
+{
+    uint64_t length;
+    ylhovesko_outcome o;
+
+    if (!take(&length, sizeof length) || length > MOST_NUMBERS || !take(numbers, (size_t)length * sizeof *numbers) || !take_slice(&one))
+        return 0;
+    o = ylhovesko_write_trace(numbers, (size_t)length, one.bytes, (size_t)one.length);
+    return give(&o, sizeof o) && give(one.bytes, (size_t)one.length);
 }
 
 static int shift_speeds(void)
@@ -205,6 +218,8 @@ static int answer(int call)
         return version();
     case 'g':
         return gears();
+    case 'n':
+        return write_trace();
     case 's':
         return shift_speeds();
     case 'w':

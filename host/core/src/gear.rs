@@ -16,7 +16,7 @@ pub struct Vehicle {
 }
 
 /// Writes the gear and the clutch of every second of the trace into the buffer from the byte `start` on; or gives the first of the refusals 1 to
-/// 9, and the buffer stays as it was.
+/// 7, 20, 8 and 9, and the buffer stays as it was.
 ///
 /// ```
 /// use ylhovesko::gear::{gears, Vehicle};
@@ -165,6 +165,32 @@ pub fn shift_tenths(vehicle: Vehicle) -> Result<ShiftTenths, Refusal> {
     assert!(rest.iter().all(|tenths| [tenths.above, tenths.not_below] == [unused; 2]), "what is past the last is out of reach");
     assert!((count == 0) == told.is_err() && (to_first != 0) == (told.is_ok() && vehicle.rule_set == 2), "what is not given is 0");
     told.map(|()| ShiftTenths { upshifts, to_first: Some(to_first).filter(|tenth| *tenth != 0) })
+}
+
+/// Writes the trace of version 2 with these seconds to the front of the buffer, 8 bytes and 4 for each second; or gives the first of the refusals 2, 4 and
+/// 8, and the buffer stays as it was. A second is its speed in 0.1 km/h and its phase: 0 stop, 1 acceleration, 2 cruise, 3 deceleration.
+///
+/// ```
+/// use ylhovesko::gear::{judge_trace, write_trace};
+/// let seconds = [[0, 0], [300, 1]];
+/// let mut buffer = [7; 17];
+/// write_trace(&seconds, &mut buffer).unwrap();
+/// assert_eq!(buffer, [b'W', b'T', b'R', 0, 2, 0, 2, 0, 0, 0, 0, 0, 44, 1, 1, 0, 7]);
+/// assert!(judge_trace(&buffer[..16]).is_ok());
+/// assert_eq!(write_trace(&seconds, &mut buffer[..15]).unwrap_err().number, 8);
+/// ```
+pub fn write_trace(seconds: &[[u16; 2]], buffer: &mut [u8]) -> Result<(), Refusal> {
+    write_numbers(seconds.as_flattened(), buffer)
+}
+
+/// As [`write_trace`], from the numbers as they cross the boundary. An odd number of them, which has a speed without its phase, is refused with 2.
+///
+/// ```
+/// assert_eq!(ylhovesko::gear::write_numbers(&[0, 0, 300], &mut [7; 17]).unwrap_err().number, 2);
+/// ```
+pub fn write_numbers(seconds: &[u16], buffer: &mut [u8]) -> Result<(), Refusal> {
+    agreed();
+    calls::write_trace(seconds, buffer).told()
 }
 
 /// Judges the two traces of a cycle: refusals 1 to 4 of the normal one, then of the reduced one, then 15.

@@ -22,7 +22,7 @@ use std::sync::Once;
 pub const LINKED: bool = cfg!(linked);
 
 /// The version of the header after which the types here are written.
-pub const VERSION: u32 = 9;
+pub const VERSION: u32 = 10;
 
 /// The version of the core's archive.
 ///

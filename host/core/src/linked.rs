@@ -19,6 +19,7 @@ extern "C" {
     ) -> Outcome;
     fn ylhovesko_shift_speeds(vehicle: Vehicle) -> SpeedsOutcome;
     fn ylhovesko_shift_tenths(vehicle: Vehicle) -> TenthsOutcome;
+    fn ylhovesko_write_trace(seconds: *const u16, seconds_length: usize, buffer: *mut u8, buffer_length: usize) -> Outcome;
     fn ylhovesko_judge_pair(normal: *const u8, normal_length: usize, reduced: *const u8, reduced_length: usize) -> Outcome;
     fn ylhovesko_chosen(normal: *const u8, normal_length: usize, reduced: *const u8, reduced_length: usize, switch: bool) -> u32;
     fn ylhovesko_result(sheet: Sheet) -> TestOutcome;
@@ -47,6 +48,10 @@ pub fn shift_speeds(vehicle: Vehicle) -> SpeedsOutcome {
 
 pub fn shift_tenths(vehicle: Vehicle) -> TenthsOutcome {
     unsafe { ylhovesko_shift_tenths(vehicle) }
+}
+
+pub fn write_trace(seconds: &[u16], buffer: &mut [u8]) -> Outcome {
+    unsafe { ylhovesko_write_trace(seconds.as_ptr(), seconds.len(), buffer.as_mut_ptr(), buffer.len()) }
 }
 
 pub fn judge_pair(normal: &[u8], reduced: &[u8]) -> Outcome {

@@ -84,16 +84,29 @@ fn put_vehicle(call: &mut Vec<u8>, vehicle: Vehicle) {
     put_words(call, &[rule_set]);
 }
 
+/// The outcome of a call, and the bytes of the buffer that was lent with it.
+fn filled(call: &[u8], buffer: &mut [u8]) -> Outcome {
+    let mut answer = vec![0; 16 + buffer.len()];
+    SERVER.with_borrow_mut(|server| server.call(call, &mut answer));
+    buffer.copy_from_slice(&answer[16..]);
+    outcome(&answer)
+}
+
 pub fn gears(trace: &[u8], vehicle: Vehicle, buffer: &mut [u8], start: usize) -> Outcome {
     let mut call = vec![b'g'];
     put_slice(&mut call, trace);
     put_vehicle(&mut call, vehicle);
     put_slice(&mut call, buffer);
     call.extend((start as u64).to_le_bytes());
-    let mut answer = vec![0; 16 + buffer.len()];
-    SERVER.with_borrow_mut(|server| server.call(&call, &mut answer));
-    buffer.copy_from_slice(&answer[16..]);
-    outcome(&answer)
+    filled(&call, buffer)
+}
+
+pub fn write_trace(seconds: &[u16], buffer: &mut [u8]) -> Outcome {
+    let mut call = vec![b'n'];
+    call.extend((seconds.len() as u64).to_le_bytes());
+    seconds.iter().for_each(|number| call.extend(number.to_le_bytes()));
+    put_slice(&mut call, buffer);
+    filled(&call, buffer)
 }
 
 pub fn shift_speeds(vehicle: Vehicle) -> SpeedsOutcome {
