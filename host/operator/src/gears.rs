@@ -23,10 +23,14 @@ pub fn gears(given: &[OsString]) -> Result<Told, Failure> {
     of_trace(&trace, &files::vehicle(&vehicle)?, outputs)
 }
 
+/// What stands over the gears of a file.
+pub fn title(path: &Path, vehicle: &Given<Vehicle>) -> String {
+    format!("Gears of {} for {}", files::name(path), vehicle::name(vehicle))
+}
+
 pub fn of_trace(path: &Path, vehicle: &Given<Vehicle>, outputs: Outputs) -> Result<Told, Failure> {
-    let title = format!("Gears of {} for {}", files::name(path), vehicle::name(vehicle));
     let trace = files::trace(path)?;
-    Ok(of_bytes(&title, &trace.bytes, vehicle, outputs)?.noting(&trace.notes))
+    Ok(of_bytes(&title(path, vehicle), &trace.bytes, vehicle, outputs)?.noting(&trace.notes))
 }
 
 pub fn of_pair(pair: &Pair, reduced_speed: bool, vehicle: &Given<Vehicle>, outputs: Outputs) -> Result<Told, Failure> {
@@ -39,7 +43,7 @@ pub fn of_pair(pair: &Pair, reduced_speed: bool, vehicle: &Given<Vehicle>, outpu
     of_bytes(&title, trace, vehicle, outputs)
 }
 
-fn of_bytes(title: &str, trace: &[u8], vehicle: &Given<Vehicle>, outputs: Outputs) -> Result<Told, Failure> {
+pub fn of_bytes(title: &str, trace: &[u8], vehicle: &Given<Vehicle>, outputs: Outputs) -> Result<Told, Failure> {
     let row = match row::row_of(trace, vehicle.value) {
         Ok(row) => row,
         Err(refusal) => return Ok(Told::refused(line(trace, vehicle, refusal) + "\n").noting(&vehicle.notes)),

@@ -1,20 +1,25 @@
 //! A cycle table in comma-separated values becomes a house file, and a trace becomes such a table again.
 //!
-//! The table's columns are second, speed in 0.1 km/h, phase (stop, acc, cruise, dec), "no gear-shift" and "no 1. gear" (0 or 1). A table that is not
-//! of this form makes no file, nor does one whose trace the core refuses.
+//! The table's columns are second, speed in 0.1 km/h and phase (stop, acc, cruise, dec), and of some tables also the marks "no gear-shift" and
+//! "no 1. gear" (0 or 1). A table that is not of this form makes no file, nor does one whose trace the core refuses. Version 2 is made, which has no marks:
+//! so that none is lost in silence, a table with a mark is refused unless version 1 is asked for.
 
 use crate::arguments::Arguments;
 use crate::files::{self, LONGEST};
 use crate::kind::Kind;
 use crate::refusals::line;
 use crate::sheet::quoted;
-use crate::trace::{self, Second};
-use crate::{Failure, Told};
+use crate::trace::{self, Second, Version};
+use crate::{lines, Failure, Told};
 use std::ffi::OsString;
+use std::path::Path;
 use ylhovesko::gear::judge_trace;
+use ylhovesko::Refusal;
 
 /// The first line of a table, by which it is known.
-pub const HEADING: &str = "second,speed_tenths,phase,no_gearshift,no_first";
+pub const HEADING: &str = "second,speed_tenths,phase";
+/// That of a table with the marks.
+pub const MARKED_HEADING: &str = "second,speed_tenths,phase,no_gearshift,no_first";
 
 /// As the table names them, in the order of the trace's flags.
 const PHASES: [&str; 4] = ["stop", "acc", "cruise", "dec"];
@@ -27,65 +32,105 @@ fn mark(word: &str) -> Option<bool> {
     }
 }
 
-/// A second, where the line is that of the second that is due.
-fn second_of(line: &str, due: u16) -> Option<Second> {
+/// A second, where the line is that of the second that is due; with the marks where the table has them.
+fn second_of(line: &str, due: u16, has_marks: bool) -> Option<Second> {
     let fields: Vec<&str> = line.trim().split(',').collect();
-    let [second, speed, phase, no_shift, no_first] = fields.try_into().ok()?;
+    let [second, speed, phase, marks @ ..] = fields.as_slice() else { return None };
     if second.parse() != Ok(due) {
         return None;
     }
-    let phase = PHASES.into_iter().position(|name| name == phase)?;
-    Some(Second::of(speed.parse().ok()?, phase, mark(no_shift)?, mark(no_first)?))
+    let [no_shift, no_first] = match (has_marks, marks) {
+        (true, [no_shift, no_first]) => [mark(no_shift)?, mark(no_first)?],
+        (false, []) => [false; 2],
+        _ => return None,
+    };
+    let phase = PHASES.iter().position(|name| name == phase)?;
+    Some(Second::of(speed.parse().ok()?, phase, no_shift, no_first))
+}
+
+/// The line of a table in which a second stands; the heading is line 1.
+fn line_of(second: usize) -> usize {
+    second + 1
 }
 
 fn seconds_of(table: &str) -> Result<Vec<Second>, String> {
     let mut lines = table.trim_start_matches('\u{feff}').lines();
-    if lines.next().map(str::trim) != Some(HEADING) {
-        return Err(format!("the first line is not '{HEADING}'"));
-    }
+    let has_marks = match lines.next().map(str::trim) {
+        Some(HEADING) => false,
+        Some(MARKED_HEADING) => true,
+        _ => return Err(format!("the first line is neither '{HEADING}' nor '{MARKED_HEADING}'")),
+    };
     let mut seconds = Vec::new();
     let mut count: u16 = 0;
     for line in lines {
         count = count.checked_add(1).ok_or("more seconds than a house file can count")?;
         let expected = || {
-            let found = quoted(line);
-            format!(
-                "line {}: {found}, expected is '{count},SPEED,PHASE,MARK,MARK' with phase stop, acc, cruise or dec",
-                usize::from(count) + 1
-            )
+            let form = if has_marks { "SPEED,PHASE,MARK,MARK" } else { "SPEED,PHASE" };
+            let (at, found) = (line_of(count.into()), quoted(line));
+            format!("line {at}: {found}, expected is '{count},{form}' with phase stop, acc, cruise or dec")
         };
-        seconds.push(second_of(line, count).ok_or_else(expected)?);
+        seconds.push(second_of(line, count, has_marks).ok_or_else(expected)?);
     }
     Ok(seconds)
 }
 
-/// `house-file`: a table into a trace.
-pub fn house_file(given: &[OsString]) -> Result<Told, Failure> {
-    let [table, made] = Arguments::of(given, &[], &[])?.exactly("a cycle table and the trace to be made")?;
-    files::apart(&table, &made)?;
-    let bytes = files::read(&table)?;
-    let said = |complaint: String| Failure::of_file(&table, &[complaint]);
+/// The seconds of a table in a file.
+fn read(table: &Path) -> Result<Vec<Second>, Failure> {
+    let bytes = files::read(table)?;
+    let said = |complaint: String| Failure::of_file(table, &[complaint]);
     if let Some(exchanged) = Kind::Table.exchanged(&bytes) {
         return Err(said(exchanged));
     }
     if bytes.len() as u64 > LONGEST {
         return Err(said(format!("it is longer than {LONGEST} bytes")));
     }
-    let seconds = seconds_of(&String::from_utf8_lossy(&bytes)).map_err(said)?;
-    let trace = trace::house_file(&seconds);
-    if let Err(refusal) = judge_trace(&trace) {
-        return Ok(Told::refused(format!("{}: {}\n", table.display(), line(refusal, &trace::found(&trace, refusal)))));
-    }
-    files::write_trace(&made, &trace)?;
-    Ok(Told::accepted(format!("{}: a trace of {} seconds\n", made.display(), seconds.len())))
+    seconds_of(&String::from_utf8_lossy(&bytes)).map_err(said)
 }
 
-fn table_of(seconds: &[Second]) -> String {
+/// The trace of a table in this version; or what is said of one that the core refuses.
+pub fn trace_of(table: &Path, version: Version) -> Result<Result<Vec<u8>, Told>, Failure> {
+    let seconds = read(table)?;
+    Ok(trace::house_file(&seconds, version).map_err(|refusal| refused(table, &seconds, version, refusal)))
+}
+
+/// Why the core takes no trace of a table; and how a mark is kept, where version 2 was to be made of one.
+fn refused(table: &Path, seconds: &[Second], version: Version, refusal: Refusal) -> Told {
+    let found = trace::found_in_making(seconds, version, refusal);
+    let told = Told::refused(format!("{}: {}\n", table.display(), line(refusal, &found)));
+    let at = refusal.at as usize;
+    let marks = at.checked_sub(1).and_then(|index| seconds.get(index)?.marks()).filter(|_| version == Version::Two);
+    let note = marks.map(|marks| format!("line {}: {marks}; --marks makes a trace of version 1, which keeps the marks", line_of(at)));
+    told.noting(&note.map_or(String::new(), |note| lines(table, &[note])))
+}
+
+/// `part1_unmarked.wtr: a trace of 600 seconds, version 2`.
+pub fn made(name: &str, trace: &[u8], version: Version) -> Told {
+    Told::accepted(format!("{name}: a trace of {} seconds, version {}\n", trace::seconds(trace).len(), version.number()))
+}
+
+/// `house-file`: a table into a trace.
+pub fn house_file(given: &[OsString]) -> Result<Told, Failure> {
+    let arguments = Arguments::of(given, &[], &["--marks"])?;
+    let [table, file] = arguments.exactly("a cycle table and the trace to be made")?;
+    files::apart(&table, &file)?;
+    let version = if arguments.has("--marks") { Version::One } else { Version::Two };
+    let trace = match trace_of(&table, version)? {
+        Ok(trace) => trace,
+        Err(refused) => return Ok(refused),
+    };
+    files::write_trace(&file, &trace)?;
+    Ok(made(&file.display().to_string(), &trace, version))
+}
+
+/// The table of an accepted trace, with the marks where its version has them.
+fn table_of(seconds: &[Second], has_marks: bool) -> String {
+    let heading = if has_marks { MARKED_HEADING } else { HEADING };
     let lines = (1..).zip(seconds).map(|(number, second)| {
         let marks = [second.no_shift(), second.no_first()].map(u8::from);
-        format!("{number},{},{},{},{}\n", second.speed, PHASES[second.phase()], marks[0], marks[1])
+        let marks = if has_marks { format!(",{},{}", marks[0], marks[1]) } else { String::new() };
+        format!("{number},{},{}{marks}\n", second.speed, PHASES[second.phase()])
     });
-    format!("{HEADING}\n{}", lines.collect::<String>())
+    format!("{heading}\n{}", lines.collect::<String>())
 }
 
 /// `table`: a trace into a table.
@@ -98,6 +143,6 @@ pub fn table(given: &[OsString]) -> Result<Told, Failure> {
         return Ok(Told::refused(format!("{}: {line}\n", path.display())).noting(&trace.notes));
     }
     let seconds = trace::seconds(&trace.bytes);
-    files::write(&made, &table_of(&seconds))?;
+    files::write(&made, &table_of(&seconds, Version::of(&trace.bytes) == Some(Version::One)))?;
     Ok(Told::accepted(format!("{}: a table of {} seconds\n", made.display(), seconds.len())))
 }

@@ -18,7 +18,7 @@ impl Kind {
         if bytes.starts_with(&trace::MARK) {
             return Some(Kind::Trace);
         }
-        if is_headed(bytes, house_file::HEADING) {
+        if [house_file::HEADING, house_file::MARKED_HEADING].iter().any(|heading| is_headed(bytes, heading)) {
             return Some(Kind::Table);
         }
         if is_headed(bytes, result_sheet::HEADING) {

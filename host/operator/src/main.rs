@@ -85,6 +85,11 @@ impl Told {
         self
     }
 
+    /// A refusal that is there to be seen, under its title: it is no failure of what shows it.
+    pub fn as_example(self, title: &str) -> Told {
+        Told { text: format!("{title}\n\n{}", self.text), code: ACCEPTED, ..self }
+    }
+
     /// All of them, with an empty line between two.
     pub fn apart(all: Vec<Told>) -> Told {
         let mut told = Told::default();

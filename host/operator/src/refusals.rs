@@ -14,8 +14,8 @@ pub fn measured(has_nmhc: bool) -> &'static [&'static str] {
     &GASES[..count]
 }
 
-/// "Given when", row by row. The numbers that are left out are given to nothing yet.
-const ROWS: [(u32, &str); 20] = [
+/// "Given when", row by row. 20 stands where it is judged, directly after 7.
+const ROWS: [(u32, &str); 21] = [
     (1, "under 8 bytes, mark, zero byte or version wrong"),
     (2, "count not 1 to 2,000"),
     (3, "length not 8 + 4 x count"),
@@ -23,7 +23,8 @@ const ROWS: [(u32, &str); 20] = [
     (5, "vehicle sheet out of range"),
     (6, "ndv not below that of the gear before"),
     (7, "power to mass"),
-    (8, "start past the buffer, or under 2 x count bytes there"),
+    (20, "a mark in a trace of version 1, under rule set 2"),
+    (8, "start past the buffer, or too few bytes there"),
     (9, "too close to call"),
     (10, "class not 1 to 3, or wrong number of parts"),
     (11, "bag sheet value"),

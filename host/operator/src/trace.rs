@@ -3,15 +3,49 @@
 use crate::files::LONGEST;
 use crate::numbers::{decimal, grouped};
 use crate::refusals::Found;
+use std::ops::Range;
 use std::path::PathBuf;
+use ylhovesko::gear::{judge_trace, write_trace};
 use ylhovesko::Refusal;
 
 /// The mark and the zero byte after it.
 pub const MARK: [u8; 4] = [b'W', b'T', b'R', 0];
-/// What a trace begins with: the mark and the version.
-const START: [u8; 6] = [b'W', b'T', b'R', 0, 1, 0];
-/// The start and the count of seconds.
-const HEAD: usize = 8;
+/// Where the version and the count of seconds stand.
+const VERSION: Range<usize> = 4..6;
+const COUNT: Range<usize> = 6..8;
+/// What stands before the seconds.
+const HEAD: usize = COUNT.end;
+
+/// The versions of a trace.
+#[derive(Clone, Copy, PartialEq, Eq)]
+pub enum Version {
+    /// A second has its phase and the marks.
+    One,
+    /// A second has its phase alone.
+    Two,
+}
+
+impl Version {
+    /// That of a trace; none where the core reads no such version.
+    pub fn of(trace: &[u8]) -> Option<Version> {
+        [Version::One, Version::Two].into_iter().find(|version| version.number() == number(trace, VERSION))
+    }
+
+    pub fn number(self) -> u16 {
+        match self {
+            Version::One => 1,
+            Version::Two => 2,
+        }
+    }
+
+    /// The largest flags of a second: every mark on the last phase, or the last phase.
+    fn largest_flags(self) -> u8 {
+        match self {
+            Version::One => 15,
+            Version::Two => 3,
+        }
+    }
+}
 
 /// A trace that was read, with a line for each note on its file.
 pub struct Trace {
@@ -47,6 +81,24 @@ impl Second {
     pub fn no_first(self) -> bool {
         self.flags & 8 != 0
     }
+
+    /// `no gear-shift and no 1. gear`; none where neither mark is set.
+    pub fn marks(self) -> Option<String> {
+        let marks = [("no gear-shift", self.no_shift()), ("no 1. gear", self.no_first())];
+        let set: Vec<&str> = marks.into_iter().filter(|(_, is_set)| *is_set).map(|(name, _)| name).collect();
+        (!set.is_empty()).then(|| set.join(" and "))
+    }
+
+    /// What stands in it, and what may stand there.
+    fn told(self, version: Version) -> String {
+        let Second { speed, flags, fourth } = self;
+        let found = format!("speed {}, flags {flags}, fourth byte {fourth}", grouped(speed.into()));
+        let told = format!("{found}; 0 to 2,000 in 0.1 km/h, 0 to {}, 0", version.largest_flags());
+        match self.marks() {
+            Some(marks) if version == Version::Two => format!("{told}; it is marked {marks}, and version 2 has no marks"),
+            _ => told,
+        }
+    }
 }
 
 pub fn seconds(trace: &[u8]) -> Vec<Second> {
@@ -54,21 +106,43 @@ pub fn seconds(trace: &[u8]) -> Vec<Second> {
     trace.get(HEAD..).unwrap_or(&[]).chunks_exact(4).map(of).collect()
 }
 
-/// The house file of these seconds, which are no more than it can count.
-pub fn house_file(seconds: &[Second]) -> Vec<u8> {
-    let mut file = START.to_vec();
+/// The house file of these seconds, which are no more than it can count; or why the core takes none of this version.
+pub fn house_file(seconds: &[Second], version: Version) -> Result<Vec<u8>, Refusal> {
+    match version {
+        Version::One => with_marks(seconds),
+        Version::Two => with_phases_alone(seconds),
+    }
+}
+
+/// The core has no writer of version 1: it judges what is made here.
+fn with_marks(seconds: &[Second]) -> Result<Vec<u8>, Refusal> {
+    let mut file = MARK.to_vec();
+    file.extend(Version::One.number().to_le_bytes());
     file.extend((seconds.len() as u16).to_le_bytes());
     for Second { speed, flags, fourth } in seconds {
         file.extend(speed.to_le_bytes());
         file.extend([flags, fourth]);
     }
-    file
+    judge_trace(&file)?;
+    Ok(file)
+}
+
+/// A mark is handed over with the phase, so that the core refuses it: no phase is above 3.
+fn with_phases_alone(seconds: &[Second]) -> Result<Vec<u8>, Refusal> {
+    let numbers: Vec<[u16; 2]> = seconds.iter().map(|second| [second.speed, second.flags.into()]).collect();
+    let mut file = vec![0; HEAD + 4 * seconds.len()];
+    write_trace(&numbers, &mut file)?;
+    Ok(file)
+}
+
+/// A number of the head; 0 where the trace ends before it.
+fn number(trace: &[u8], at: Range<usize>) -> u16 {
+    trace.get(at).map_or(0, |bytes| u16::from_le_bytes([bytes[0], bytes[1]]))
 }
 
 /// The count that a trace names, which may not be that of its seconds.
 fn count(trace: &[u8]) -> String {
-    let number = trace.get(6..HEAD).map_or(0, |count| u16::from_le_bytes([count[0], count[1]]));
-    grouped(number.into())
+    grouped(number(trace, COUNT).into())
 }
 
 /// A speed of 0.1 km/h in km/h.
@@ -84,7 +158,10 @@ fn start(trace: &[u8]) -> String {
     if trace.len() < HEAD {
         return format!("{} bytes; at least {HEAD}", trace.len());
     }
-    format!("begins with {}; {}", hexadecimal(&trace[..START.len()]), hexadecimal(&START))
+    if !trace.starts_with(&MARK) {
+        return format!("begins with {}; {}", hexadecimal(&trace[..MARK.len()]), hexadecimal(&MARK));
+    }
+    format!("version {}; 1 or 2", grouped(number(trace, VERSION).into()))
 }
 
 fn length(trace: &[u8]) -> String {
@@ -96,20 +173,34 @@ fn length(trace: &[u8]) -> String {
 
 /// Where a refusal of a trace lies, and what stands there.
 pub fn found(trace: &[u8], refusal: Refusal) -> Found {
-    let second = (refusal.at as usize).checked_sub(1).and_then(|at| seconds(trace).get(at).copied());
-    let (place, value) = match (refusal.number, second) {
-        (1, _) => (String::new(), start(trace)),
-        (2, _) => (String::new(), count(trace)),
-        (3, _) => (String::new(), length(trace)),
-        (4, Some(Second { speed, flags, fourth })) => {
-            let speed = grouped(speed.into());
-            let value = format!("speed {speed}, flags {flags}, fourth byte {fourth}; 0 to 2,000 in 0.1 km/h, 0 to 15, 0");
-            (format!("second {}", refusal.at), value)
-        }
-        (9, Some(second)) => (format!("second {}", refusal.at), format!("{} km/h", kilometres_an_hour(second.speed))),
-        _ => (String::new(), String::new()),
+    let value = match (refusal.number, Version::of(trace)) {
+        (1, _) => start(trace),
+        (2, _) => count(trace),
+        (3, _) => length(trace),
+        (_, Some(version)) => return found_in_second(&seconds(trace), version, refusal),
+        (_, None) => String::new(),
     };
-    Found { place, value }
+    Found { place: String::new(), value }
+}
+
+/// The second that a refusal names, and what stands in it.
+fn found_in_second(seconds: &[Second], version: Version, refusal: Refusal) -> Found {
+    let Some(second) = (refusal.at as usize).checked_sub(1).and_then(|at| seconds.get(at).copied()) else { return Found::default() };
+    let value = match refusal.number {
+        4 => second.told(version),
+        9 => format!("{} km/h", kilometres_an_hour(second.speed)),
+        20 => second.marks().unwrap_or_default(),
+        _ => String::new(),
+    };
+    Found { place: format!("second {}", refusal.at), value }
+}
+
+/// Where a refusal of seconds lies of which a trace of this version was to be made, and what stands there.
+pub fn found_in_making(seconds: &[Second], version: Version, refusal: Refusal) -> Found {
+    match refusal.number {
+        2 => Found { place: String::new(), value: grouped(seconds.len() as i128) },
+        _ => found_in_second(seconds, version, refusal),
+    }
 }
 
 /// What stands in two traces that differ in count.

@@ -12,8 +12,8 @@ const CYCLES: [&str; 6] = ["part1_normal", "part1_reduced", "part2_normal", "par
 fn house_files_come_from_the_tables() {
     for name in CYCLES {
         let made = to_be_made(&format!("{name}_made.wtr"));
-        let told = run(&["house-file", &of_demo(&format!("cycles/{name}.csv")), &made]);
-        assert_eq!((told.out, told.errors.as_str(), told.code), (format!("{made}: a trace of 600 seconds\n"), "", Some(0)));
+        let told = run(&["house-file", &of_demo(&format!("cycles/{name}.csv")), &made, "--marks"]);
+        assert_eq!((told.out, told.errors.as_str(), told.code), (format!("{made}: a trace of 600 seconds, version 1\n"), "", Some(0)));
         let made = fs::read(made).unwrap();
         for stored in ["demo", "crates/gear_figures/data"] {
             let file = demo().join("..").join(stored).join(format!("{name}.wtr"));
@@ -23,11 +23,24 @@ fn house_files_come_from_the_tables() {
 }
 
 #[test]
-fn the_demo_s_own_trace_comes_from_its_table() {
-    let made = to_be_made("tall_second_made.wtr");
-    let told = run(&["house-file", &of_demo("cycles/tall_second.csv"), &made]);
-    assert_eq!((told.out, told.errors.as_str(), told.code), (format!("{made}: a trace of 34 seconds\n"), "", Some(0)));
-    assert!(fs::read(made).unwrap() == fs::read(of_demo("tall_second.wtr")).unwrap(), "tall_second.wtr differs from its table");
+fn the_demo_s_traces_without_marks_come_from_their_tables() {
+    for (name, seconds) in [("tall_second", 34), ("part1_unmarked", 600), ("part2_unmarked", 600), ("part3_unmarked", 600)] {
+        let made = to_be_made(&format!("{name}_made.wtr"));
+        let told = run(&["house-file", &of_demo(&format!("cycles/{name}.csv")), &made]);
+        let words = format!("{made}: a trace of {seconds} seconds, version 2\n");
+        assert_eq!((told.out, told.errors.as_str(), told.code), (words, "", Some(0)));
+        assert!(fs::read(made).unwrap() == fs::read(of_demo(&format!("{name}.wtr"))).unwrap(), "{name}.wtr differs from its table");
+    }
+}
+
+/// The unmarked traces of the demo have the speeds and the phases of the normal ones, and nothing else.
+#[test]
+fn the_demo_s_unmarked_traces_are_the_normal_ones() {
+    for part in 1..=3 {
+        let [normal, unmarked] = ["normal", "unmarked"].map(|which| demo_text(&format!("cycles/part{part}_{which}.csv")));
+        let phases = normal.lines().map(|line| line.split(',').take(3).collect::<Vec<_>>().join(","));
+        assert!(unmarked.lines().eq(phases), "part {part}");
+    }
 }
 
 #[test]
@@ -51,7 +64,7 @@ fn row_lines(trace: &str, vehicle: &str, file: &str) -> Vec<String> {
 #[test]
 fn the_two_rule_sets_on_the_cycle() {
     for (part, differing) in [(1, 24), (2, 6), (3, 3)] {
-        let trace = format!("part{part}_normal.wtr");
+        let trace = format!("part{part}_unmarked.wtr");
         let by_1 = row_lines(&trace, "annex13.vehicle", &format!("set_1_{part}.csv"));
         let by_2 = row_lines(&trace, "rule_set_2.vehicle", &format!("set_2_{part}.csv"));
         let pairs = by_1.iter().zip(&by_2).filter(|(one, two)| one != two);
@@ -84,7 +97,7 @@ fn every_mark_comes_back() {
     let bytes = [b"WTR\0\x01\0\x10\0".as_slice(), &seconds].concat();
     let (trace, table, again) = (stored("marks.wtr", &bytes), to_be_made("marks.csv"), to_be_made("marks_again.wtr"));
     assert_eq!(run(&["table", &trace, &table]).code, Some(0));
-    assert_eq!(run(&["house-file", &table, &again]).code, Some(0));
+    assert_eq!(run(&["house-file", &table, &again, "--marks"]).code, Some(0));
     assert_eq!(fs::read(again).unwrap(), bytes);
 }
 
@@ -102,7 +115,8 @@ fn a_malformed_table_makes_no_house_file() {
     }
     let table = stored("headless.csv", "1,0,stop,0,0\n");
     let told = run(&["house-file", &table, &made]);
-    assert_eq!((told.errors, told.code), (format!("{table}: the first line is not '{HEADING}'\n"), Some(2)));
+    let words = format!("{table}: the first line is neither 'second,speed_tenths,phase' nor '{HEADING}'\n");
+    assert_eq!((told.errors, told.code), (words, Some(2)));
 }
 
 #[test]
@@ -114,7 +128,7 @@ fn a_table_that_the_core_refuses_makes_no_house_file() {
         assert_eq!((told.out, told.code, Path::new(&made).exists()), (format!("{table}: refused: {words}\n"), Some(1), false));
     };
     refused("no_seconds.csv", "", "2 count not 1 to 2,000: 0");
-    let words = "second 1: speed 2,001, flags 0, fourth byte 0; 0 to 2,000 in 0.1 km/h, 0 to 15, 0";
+    let words = "second 1: speed 2,001, flags 0, fourth byte 0; 0 to 2,000 in 0.1 km/h, 0 to 3, 0";
     refused("too_fast.csv", "1,2001,stop,0,0\r\n", &format!("4 speed, flags or fourth byte wrong, {words}"));
 }
 
@@ -135,7 +149,7 @@ fn no_trace_goes_to_a_terminal() {
     if fs::OpenOptions::new().write(true).open("/dev/ptmx").is_err() {
         return;
     }
-    let told = run(&["house-file", &of_demo("cycles/part1_normal.csv"), "/dev/ptmx"]);
+    let told = run(&["house-file", &of_demo("cycles/part1_unmarked.csv"), "/dev/ptmx"]);
     let words = "/dev/ptmx: cannot be written: a trace is no text for a terminal\n";
     assert_eq!((told.out.as_str(), told.errors.as_str(), told.code), ("", words, Some(2)));
 }
@@ -181,8 +195,9 @@ fn damaged_traces() {
     };
     let start = "1 under 8 bytes, mark, zero byte or version wrong";
     refused("short.wtr", &trace[..7], &format!("{start}: 7 bytes; at least 8"));
-    refused("mark.wtr", changed(0, b'w'), &format!("{start}: begins with 77 54 52 00 01 00; 57 54 52 00 01 00"));
-    refused("version.wtr", changed(5, 1), &format!("{start}: begins with 57 54 52 00 01 01; 57 54 52 00 01 00"));
+    refused("mark.wtr", changed(0, b'w'), &format!("{start}: begins with 77 54 52 00; 57 54 52 00"));
+    refused("zero.wtr", changed(3, 1), &format!("{start}: begins with 57 54 52 01; 57 54 52 00"));
+    refused("version.wtr", changed(5, 1), &format!("{start}: version 257; 1 or 2"));
     refused("count.wtr", changed(7, 0xff), "2 count not 1 to 2,000: 65,368");
     let length = "3 length not 8 + 4 x count";
     refused("truncated.wtr", &trace[..trace.len() - 1], &format!("{length}: 2,407 bytes, with count 600"));
