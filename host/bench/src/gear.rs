@@ -1,4 +1,4 @@
-//! The gear sheet, refusals 1 to 9.
+//! The gear sheet, refusals 1 to 7, 20, 8 and 9; and the writer of traces, refusals 2, 4 and 8.
 
 use ylhovesko::gear::Vehicle;
 use ylhovesko::Refusal;
@@ -33,16 +33,35 @@ fn no_first_gear(second: Second) -> bool {
     second[2] & 8 != 0
 }
 
+fn is_marked(second: Second) -> bool {
+    second[2] > DECELERATION
+}
+
+/// The greatest flags of a second: version 1 has the phase and two marks, version 2 the phase alone.
+fn most_flags(trace: &[u8]) -> Option<u8> {
+    match trace {
+        [b'W', b'T', b'R', 0, 1, 0, _, _, ..] => Some(15),
+        [b'W', b'T', b'R', 0, 2, 0, _, _, ..] => Some(DECELERATION),
+        _ => None,
+    }
+}
+
 fn judge_trace(trace: &[u8]) -> Result<&[Second], Refusal> {
-    check(trace.len() >= 8 && trace[..6] == *b"WTR\0\x01\0", nowhere(1))?;
+    let most = most_flags(trace).ok_or(nowhere(1))?;
     let count = usize::from(u16::from_le_bytes([trace[6], trace[7]]));
     check((1..=MOST_SECONDS).contains(&count), nowhere(2))?;
     check(trace.len() == 8 + 4 * count, nowhere(3))?;
     let seconds = trace[8..].as_chunks().0;
     for (k, &second) in seconds.iter().enumerate() {
-        check(speed(second) <= 2000 && second[2] < 16 && second[3] == 0, at(4, k as u32 + 1))?;
+        check(speed(second) <= 2000 && second[2] <= most && second[3] == 0, at(4, k as u32 + 1))?;
     }
     Ok(seconds)
+}
+
+/// Rule set 2 takes no mark.
+fn judge_marks(v: &Vehicle, seconds: &[Second]) -> Result<(), Refusal> {
+    let marked = if v.rule_set == 2 { seconds.iter().position(|&second| is_marked(second)) } else { None };
+    marked.map_or(Ok(()), |k| Err(at(20, k as u32 + 1)))
 }
 
 fn judge_vehicle(v: &Vehicle) -> Result<(), Refusal> {
@@ -226,6 +245,7 @@ fn clutch(second: Second, ndv: u32, least: u32) -> u8 {
 pub fn write_gears(trace: &[u8], vehicle: &Vehicle, buffer: &mut [u8], start: usize) -> Result<(), Refusal> {
     let seconds = judge_trace(trace)?;
     judge_vehicle(vehicle)?;
+    judge_marks(vehicle, seconds)?;
     let n = seconds.len();
     let part = buffer.get_mut(start..).and_then(|part| part.get_mut(..2 * n)).ok_or(nowhere(8))?;
     let shift = Shift::of(vehicle);
@@ -246,6 +266,24 @@ pub fn write_gears(trace: &[u8], vehicle: &Vehicle, buffer: &mut [u8], start: us
         // neutral has no ratio, and stands at stops alone
         let ndv = vehicle.ndv[usize::from(gear.max(1)) - 1];
         *out = [gear, clutch(second, ndv, least)];
+    }
+    Ok(())
+}
+
+/// The trace of version 2 with these speeds and phases at the front of the buffer; or the first refusal, and the buffer as it was lent.
+pub fn write_trace(numbers: &[u16], buffer: &mut [u8]) -> Result<(), Refusal> {
+    let (seconds, alone) = numbers.as_chunks();
+    let n = seconds.len();
+    check(alone.is_empty() && (1..=MOST_SECONDS).contains(&n), nowhere(2))?;
+    for (k, &[speed, phase]) in seconds.iter().enumerate() {
+        check(speed <= 2000 && phase <= u16::from(DECELERATION), at(4, k as u32 + 1))?;
+    }
+    let (head, rest) = buffer.get_mut(..8 + 4 * n).ok_or(nowhere(8))?.split_at_mut(8);
+    head[..6].copy_from_slice(b"WTR\0\x02\0");
+    head[6..].copy_from_slice(&(n as u16).to_le_bytes());
+    for (out, &[speed, phase]) in rest.as_chunks_mut().0.iter_mut().zip(seconds) {
+        let [low, high] = speed.to_le_bytes();
+        *out = [low, high, phase as u8, 0];
     }
     Ok(())
 }

@@ -2,6 +2,7 @@
 
 use compare::lot::FARTHEST;
 use compare::random::Random;
+use compare::trace::{house_file, in_version, unmarked};
 use ylhovesko::bags::{petrol, result, Bag, Efficiencies, Ends, Gases, Part, Reading, Sheet};
 use ylhovesko::gear::{gears, Vehicle};
 use ylhovesko::lot::{Record, MOST};
@@ -35,14 +36,25 @@ fn restless() -> impl Iterator<Item = u8> {
 
 /// House files of so many seconds each, from one source of seconds.
 fn files(count: u16, mut seconds: impl Iterator<Item = u8>) -> Vec<Vec<u8>> {
-    let head = [b"WTR\0", &[1, 0][..], &count.to_le_bytes()].concat();
-    let file = |_| head.iter().copied().chain(seconds.by_ref().take(4 * usize::from(count))).collect();
-    (0..SECONDS / usize::from(count)).map(file).collect()
+    let mut file = || house_file(&seconds.by_ref().take(4 * usize::from(count)).collect::<Vec<u8>>());
+    (0..SECONDS / usize::from(count)).map(|_| file()).collect()
 }
 
-/// The kinds of traces, with the house files of a length.
-pub fn traces(count: u16) -> [(&'static str, Vec<Vec<u8>>); 2] {
-    [("cycle", files(count, cycle())), ("restless", files(count, restless()))]
+/// The kinds of traces, with the house files of a length: of version 1 with their marks for rule set 1, and of version 2 with the phases alone for rule set 2,
+/// which takes no mark.
+pub fn traces(rule_set: u32, count: u16) -> [(&'static str, Vec<Vec<u8>>); 2] {
+    let of_set = |files: Vec<Vec<u8>>| match rule_set {
+        1 => files,
+        _ => files.into_iter().map(|file| in_version(2, unmarked(file))).collect(),
+    };
+    [("cycle", of_set(files(count, cycle()))), ("restless", of_set(files(count, restless())))]
+}
+
+/// The same kinds as the lists that the writer takes, of so many seconds each.
+pub fn lists(count: u16) -> [(&'static str, Vec<Vec<u16>>); 2] {
+    let numbers = |second: &[u8]| [u16::from_le_bytes([second[0], second[1]]), second[2].into()];
+    let list = |file: &Vec<u8>| file[8..].chunks(4).flat_map(numbers).collect();
+    traces(2, count).map(|(kind, files)| (kind, files.iter().map(list).collect()))
 }
 
 /// A machine as planners try them: 80 to 350 kg, 3 to 150 kW or as much as the mass takes, 3 to 8 gears, each ratio 8 to 50 percent above the next.
@@ -56,7 +68,7 @@ fn planned(random: &mut Random, rule_set: u32) -> Vehicle {
     Vehicle { power, mass, rated: random.from(5000, 14_000), idle: random.from(800, 1500), gears: random.from(3, 8), ndv, rule_set }
 }
 
-/// So many machines that are refused on none of the traces. The rule sets refuse the same, so that each has the same machines.
+/// So many machines that are refused on none of the traces. What is too close is so under both rule sets, so that each has the same machines.
 pub fn vehicles(count: usize, rule_set: u32, traces: &[&[u8]]) -> Vec<Vehicle> {
     let accepted = |vehicle: &Vehicle| traces.iter().all(|trace| gears(trace, *vehicle, &mut vec![0; trace.len()], 0).is_ok());
     let mut random = Random::new(1);

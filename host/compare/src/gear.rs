@@ -8,6 +8,7 @@ use ylhovesko::gear::Vehicle;
 
 use crate::pairs::Pair;
 use crate::random::Random;
+use crate::trace::{house_file, with_version};
 use crate::{core_told, hex, plain_told, stored, unhex, Told};
 
 /// A call of the gear sheet. The buffer's bytes are noise, so that a byte written where none should be is seen.
@@ -19,7 +20,7 @@ pub struct Case {
     pub start: usize,
 }
 
-/// The case as a line of vectors/M-101-gear.txt has it, up to its answer.
+/// The case as a line of vectors/M-101-gear.txt or vectors/M-109-gear.txt has it, up to its answer.
 impl fmt::Display for Case {
     fn fmt(&self, f: &mut fmt::Formatter) -> fmt::Result {
         write!(f, "{} {} {} {}", hex(&self.trace), vehicle_text(&self.vehicle), self.buffer.len(), self.start)
@@ -310,12 +311,6 @@ fn count(random: &mut Random) -> usize {
     }
 }
 
-/// The house file of so many seconds, four bytes each.
-pub fn house_file(seconds: &[u8]) -> Vec<u8> {
-    let count = (seconds.len() / 4) as u16;
-    [b"WTR\0", &[1, 0][..], &count.to_le_bytes(), seconds].concat()
-}
-
 /// A house file with one thing wrong, or more.
 fn damage_trace(random: &mut Random, trace: &mut Vec<u8>) {
     let second = 8 + 4 * random.below((trace.len() as u64 - 8) / 4) as usize;
@@ -385,8 +380,20 @@ fn rule_set(seed: u64) -> u32 {
     random.from(1, 2)
 }
 
+/// The numbers for the version of a seed. They are its own, so that the rest of a case is what it was when there was one version.
+fn for_version(seed: u64) -> Random {
+    Random::new(!seed.reverse_bits())
+}
+
 /// The random case of a seed.
 pub fn case(seed: u64) -> Case {
+    let Case { trace, vehicle, buffer, start } = case_of_before(seed);
+    let vehicle = Vehicle { rule_set: rule_set(seed), ..vehicle };
+    Case { trace: with_version(&mut for_version(seed), trace), vehicle, buffer, start }
+}
+
+/// The random case of a seed as it was before there were two rule sets and two versions: rule set 1, and version 1 unless that is damaged.
+pub fn case_of_before(seed: u64) -> Case {
     let mut random = Random::new(seed);
     let random = &mut random;
     let (vehicle, close) = match random.below(20) {
@@ -404,9 +411,7 @@ pub fn case(seed: u64) -> Case {
     if random.once_in(2) {
         preferred.extend(three_per_cent_tenths(&vehicle));
     }
-    let mut case = case_of(random, vehicle, close, preferred);
-    case.vehicle.rule_set = rule_set(seed);
-    case
+    case_of(random, vehicle, close, preferred)
 }
 
 /// The random case of a seed on a machine on which 2 to 1 lies above 3 to 2, with speeds beside both; most have rule set 2.
@@ -420,6 +425,7 @@ pub fn first_gear_case(seed: u64) -> Case {
     let close = random.once_in(2).then_some(speed);
     let mut case = case_of(random, vehicle, close, preferred);
     case.vehicle.rule_set = random.one_of(&[1, 2, 2, 2]);
+    case.trace = with_version(&mut for_version(seed), case.trace);
     case
 }
 
@@ -437,6 +443,8 @@ pub fn pair(seed: u64) -> Pair {
     if random.once_in(4) {
         damage_trace(random, &mut reduced);
     }
+    let random = &mut for_version(seed);
+    let [normal, reduced] = [normal, reduced].map(|trace| with_version(random, trace));
     Pair { normal, reduced }
 }
 

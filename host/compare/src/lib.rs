@@ -11,6 +11,8 @@ pub mod readings;
 pub mod speeds;
 pub mod sums;
 pub mod tenths;
+pub mod trace;
+pub mod writer;
 
 /// How many gases the lines of files from before M-108 know.
 pub const BEFORE_M_108: usize = 4;

@@ -30,6 +30,14 @@ pub fn read(text: &str) -> (Pair, Answer) {
     (Pair { normal: unhex(normal), reduced: unhex(reduced) }, ([number, place, 0, 0], [off, on]))
 }
 
+/// The pair of a line of vectors/M-109-pair.txt, the switch there, the outcome, and which trace is handed back, as in [`Answer`].
+pub fn read_with_switch(text: &str) -> (Pair, usize, Told, u32) {
+    let [normal, reduced, switch, number, place, chosen] = text.split(' ').collect::<Vec<_>>()[..] else { panic!("no pair: {text}") };
+    let chosen = ["-", "normal", "reduced"].iter().position(|word| *word == chosen).unwrap();
+    let told = [number.parse().unwrap(), place.parse().unwrap(), 0, 0];
+    (Pair { normal: unhex(normal), reduced: unhex(reduced) }, switch.parse().unwrap(), told, chosen as u32)
+}
+
 /// The answer as a line of vectors/directed_pairs.txt has it after the pair.
 pub fn answer_text(([number, place, ..], [off, on]): &Answer) -> String {
     format!("{number} {place} {off} {on}")

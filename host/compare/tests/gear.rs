@@ -2,41 +2,25 @@
 
 use std::collections::BTreeMap;
 
-use compare::gear::{by_core, by_plain, by_tenths, case, first_gear_case, pair, plain_vehicle, read, Answer, Case};
+use compare::gear::{by_core, by_plain, by_tenths, case, case_of_before, first_gear_case, pair, plain_vehicle, read, Answer, Case};
+use compare::trace::{first_marked, version};
 use compare::{cases, pairs, stored};
 use plain::gear::{exponential, speeds, three_per_cent};
 use ylhovesko::gear::Vehicle;
 
 const GEAR: &str = include_str!("../../vectors/gear.txt");
 const BY_01: &str = include_str!("../../vectors/gear_by_01.txt");
-const M_100: &str = include_str!("../../vectors/M-100-gear.txt");
-const M_101: &str = include_str!("../../vectors/M-101-gear.txt");
 
-/// Every line of a file of stored cases: the number, the place and every byte of the buffer.
-fn both_answer(text: &str, lines: usize) {
-    for (line, text) in stored(text) {
+/// Every line: the number, the place and every byte of the buffer. The cases that came with requests are in tests/versions.rs.
+#[test]
+fn stored_cases() {
+    for (line, text) in stored(GEAR) {
         let (case, answer) = read(line, text);
         assert_eq!(by_plain(&case), answer, "plain, line {line}");
         assert_eq!(by_tenths(&case), answer, "plain by tenths, line {line}");
         assert_eq!(by_core(&case), answer, "core, line {line}");
     }
-    assert_eq!(stored(text).count(), lines);
-}
-
-#[test]
-fn stored_cases() {
-    both_answer(GEAR, 500);
-}
-
-/// The cases that came with the requests.
-#[test]
-fn stored_cases_of_m_100() {
-    both_answer(M_100, 300);
-}
-
-#[test]
-fn stored_cases_of_m_101() {
-    both_answer(M_101, 300);
+    assert_eq!(stored(GEAR).count(), 500);
 }
 
 /// How many clutch bytes of the row went from in to out. No other byte may have changed.
@@ -134,10 +118,13 @@ fn random_cases() {
     println!("cases by refusal number: {seen:?}; seconds above n + 0.03 (s - n), in 0.001 per minute: {above:?}; to 2 to 1: {beside:?}");
     if seen.values().sum::<u64>() >= 100_000 {
         assert!(seen[&0] >= 40_000, "too few are accepted: {seen:?}");
-        assert!((1..=9).all(|number| seen.get(&number).is_some_and(|&count| count >= 100)), "a refusal is hardly met: {seen:?}");
+        assert!(
+            (1..=9).chain([20]).all(|number| seen.get(&number).is_some_and(|&count| count >= 100)),
+            "a refusal is hardly met: {seen:?}"
+        );
         let enough = [(-2, 100_000), (-1, 200), (0, 1000), (1, 200), (2, 100_000)];
         assert!(enough.iter().all(|(step, least)| above.get(step).is_some_and(|count| count >= least)), "a side is hardly met: {above:?}");
-        let enough = [("up to a tenth below", 10_000), ("at", 500), ("up to a tenth above", 10_000)];
+        let enough = [("up to a tenth below", 7500), ("at", 500), ("up to a tenth above", 7500)];
         assert!(
             enough.iter().all(|(side, least)| beside.get(side).is_some_and(|count| count >= least)),
             "a side is hardly met: {beside:?}"
@@ -167,12 +154,6 @@ fn random_cases_of_first_gear() {
     }
 }
 
-fn with_set(rule_set: u32, seed: u64) -> Case {
-    let mut case = case(seed);
-    case.vehicle.rule_set = rule_set;
-    case
-}
-
 /// FNV-1a, of 64 bits, over the four numbers and then the buffer of each answer.
 fn digest(answers: impl Iterator<Item = Answer>) -> u64 {
     let bytes = answers.flat_map(|(told, written)| told.into_iter().flat_map(u32::to_le_bytes).chain(written));
@@ -183,26 +164,32 @@ fn digest(answers: impl Iterator<Item = Answer>) -> u64 {
 /// implementation of that commit has the same.
 const BEFORE_M_101: u64 = 0x98bb_d1f6_045e_b082;
 
-/// Rule set 1 is the rule as it stood: the same cases, with set 1, have the same refusals, gears and clutches.
+/// Rule set 1 with version 1 is the rule as it stood: the same cases have the same refusals, gears and clutches. Those whose head was damaged to say version 2
+/// were refused with 1, and are so counted here.
 #[test]
 fn set_1_answers_as_before() {
+    let has_version_2 = |case: &Case| version(&case.trace) == Some(2);
     for answer in [by_core, by_plain, by_tenths] {
-        assert_eq!(digest((0..20_000).map(|seed| answer(&with_set(1, seed)))), BEFORE_M_101);
+        let before = |case: Case| if has_version_2(&case) { ([1, 0, 0, 0], case.buffer) } else { answer(&case) };
+        assert_eq!(digest((0..20_000).map(case_of_before).map(before)), BEFORE_M_101);
     }
+    assert_eq!((0..20_000).map(case_of_before).filter(has_version_2).count(), 45);
 }
 
-/// What is refused, and where, is the same under both sets; rows differ.
+/// What is refused, and where, is the same under both sets, but for a mark in version 1, which set 2 refuses where set 1 has none of 1 to 7; rows differ.
 #[test]
 fn both_sets_refuse_alike() {
-    let mut differ = 0;
+    let (mut differ, mut marked) = (0, 0);
     let some = cases("YLHOVESKO_CASES", 20_000).min(20_000);
-    for seed in 0..some {
-        let [by_1, by_2] = [1, 2].map(|rule_set| by_core(&with_set(rule_set, seed)));
-        assert_eq!(by_1.0, by_2.0, "seed {seed}: {}", with_set(2, seed));
-        differ += u64::from(by_1.1 != by_2.1);
+    for case in (0..some).map(case) {
+        let [by_1, by_2] = [1, 2].map(|rule_set| by_core(&Case { vehicle: Vehicle { rule_set, ..case.vehicle }, ..case.clone() }));
+        let mark = first_marked(&case.trace).filter(|_| version(&case.trace) == Some(1) && [0, 8, 9].contains(&by_1.0[0]));
+        assert_eq!(by_2.0, mark.map_or(by_1.0, |second| [20, second, 0, 0]), "{case}");
+        differ += u64::from(mark.is_none() && by_1.1 != by_2.1);
+        marked += u64::from(mark.is_some());
     }
-    println!("of {some} cases {differ} have another row under the other set");
-    assert!(some < 20_000 || differ >= 2000, "rows hardly differ: {differ}");
+    println!("of {some} cases {differ} have another row under the other set, and {marked} are refused with 20 under set 2");
+    assert!(some < 20_000 || differ >= 2000 && marked >= 2000, "rows hardly differ, or hardly one is marked: {differ}, {marked}");
 }
 
 /// Random pairs: the refusal, and that the chosen trace is the lent one itself.

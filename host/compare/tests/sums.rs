@@ -16,6 +16,7 @@ use ylhovesko::gear::Vehicle;
 const GEAR: &str = include_str!("../../vectors/gear.txt");
 const M_100: &str = include_str!("../../vectors/M-100-gear.txt");
 const M_101: &str = include_str!("../../vectors/M-101-gear.txt");
+const M_109: &str = include_str!("../../vectors/M-109-gear.txt");
 const DIRECTED: &str = include_str!("../../vectors/directed_gear.txt");
 const SPEEDS: &str = include_str!("../../vectors/directed_speeds.txt");
 const TENTHS: &str = include_str!("../../vectors/directed_tenths.txt");
@@ -161,9 +162,9 @@ fn stored_rows(text: &str) -> (usize, usize) {
 /// Every stored case of the gear sheet; those of gear_by_01.txt are those of gear.txt.
 #[test]
 fn stored_cases() {
-    let seen = [GEAR, M_100, M_101, DIRECTED].map(stored_rows);
-    println!("accepted and too close in gear.txt, M-100-gear.txt, M-101-gear.txt and directed_gear.txt: {seen:?}");
-    assert_eq!(seen, [(193, 8), (188, 12), (154, 30), (430, 95)]);
+    let seen = [GEAR, M_100, M_101, M_109, DIRECTED].map(stored_rows);
+    println!("accepted and too close in gear.txt, M-100-gear.txt, M-101-gear.txt, M-109-gear.txt and directed_gear.txt: {seen:?}");
+    assert_eq!(seen, [(193, 8), (188, 12), (36, 7), (159, 9), (663, 115)]);
 }
 
 /// Random cases, a tenth of YLHOVESKO_CASES; and as many on machines on which 2 to 1 lies above 3 to 2.

@@ -1,4 +1,4 @@
-//! The gear sheet (01, Shift speeds to Corrections), refusals 1 to 9.
+//! The gear sheet (01, Shift speeds to Corrections), refusals 1 to 7, 20, 8 and 9.
 
 use crate::figure::Figure;
 use crate::trace::{self, Phase, Second};
@@ -33,6 +33,16 @@ pub(crate) fn judge(v: &Vehicle) -> Result<(), Refusal> {
         check(pair[1] < pair[0], at(6, gear))?;
     }
     check(19 * v.p <= 150 * (v.m + 75), nowhere(7))
+}
+
+/// "20 for a marked version 1 trace under set 2, with its first marked second" (02, M-109); "marks on stop seconds count" (readings). A trace of version 2 that
+/// was accepted has none.
+fn judge_marks(v: &Vehicle, seconds: &[Second]) -> Result<(), Refusal> {
+    let first_marked = (1..).zip(seconds).find(|(_, second)| second.is_marked());
+    match first_marked {
+        Some((place, _)) if v.rule_set == 2 => Err(at(20, place)),
+        _ => Ok(()),
+    }
 }
 
 /// 1 in the units of the exponential's ends.
@@ -306,6 +316,7 @@ pub(crate) fn write_gears_by(
 ) -> Result<(), Refusal> {
     let seconds = trace::read(file)?;
     judge(vehicle)?;
+    judge_marks(vehicle, &seconds)?;
     let room = buffer.len().checked_sub(start);
     check(room.is_some_and(|room| room >= 2 * seconds.len()), nowhere(8))?;
     let own = way(vehicle);

@@ -1,4 +1,4 @@
-//! The shift speeds "once per vehicle" in whole tenths of a km/h, and gears chosen "from those whole numbers" (02, M-106), refusals 1 to 9.
+//! The shift speeds "once per vehicle" in whole tenths of a km/h, and gears chosen "from those whole numbers" (02, M-106), refusals 1 to 7, 20, 8 and 9.
 //!
 //! Each tenth is found by asking 01's comparison with the ends, so that nothing has to be argued about how a shift speed rounds.
 

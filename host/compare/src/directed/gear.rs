@@ -2,9 +2,10 @@
 
 use ylhovesko::gear::Vehicle;
 
-use super::{rule_sets, tenths};
-use crate::gear::{answer_text, by_plain, by_tenths, house_file, Case};
+use super::{rule_sets, tenths, versions};
+use crate::gear::{answer_text, by_plain, by_tenths, Case};
 use crate::random::Random;
+use crate::trace::house_file;
 use crate::Told;
 
 /// A case, what is to be seen in it, and what 01 and 02 say of it: the refusal, and the row where its gears are worked out by hand.
@@ -58,7 +59,7 @@ pub(super) fn long(count: u32) -> Vec<u8> {
 }
 
 /// A trace that has every phase, with exactly its room.
-fn usual() -> Case {
+pub(super) fn usual() -> Case {
     lent(trace("s a1 a2 a3 c4 d3 d@99 s@23"), EIGHT)
 }
 
@@ -106,14 +107,18 @@ impl Cases {
 
     /// Seconds whose clutch is worked out by hand too: each has its gear and then `in` or `out`.
     pub(super) fn row_with_clutch(&mut self, words: &str, vehicle: Vehicle, seconds: &str, row: &str) {
+        self.case_with_clutch(&format!("{words}: {seconds}"), lent(trace(seconds), vehicle), row);
+    }
+
+    /// The same of a case.
+    pub(super) fn case_with_clutch(&mut self, words: &str, case: Case, row: &str) {
         let bytes = |each: &str| match each.split_once('/').unwrap() {
             (gear, "in") => [gear.parse().unwrap(), 0],
             (gear, "out") => [gear.parse().unwrap(), 1],
             _ => panic!("{each}"),
         };
         let bytes: Vec<u8> = row.split(' ').flat_map(bytes).collect();
-        let words = format!("clutch, {words}: {seconds} gives: {row}");
-        self.0.push(Directed { words, case: lent(trace(seconds), vehicle), told: [0; 4], row: Some(bytes) });
+        self.0.push(Directed { words: format!("clutch, {words} gives: {row}"), case, told: [0; 4], row: Some(bytes) });
     }
 
     fn row(&mut self, words: &str, seconds: &str, gears: &str) {
@@ -135,9 +140,6 @@ fn house_files(cases: &mut Cases) {
     }
     for byte in 0..6 {
         cases.file(1, 0, &format!("byte {byte} is another"), |file| file[byte] ^= 1);
-    }
-    for version in [0, 2, 256, 257] {
-        cases.file(1, 0, &format!("version {version}"), |file| file[4..6].copy_from_slice(&u16::to_le_bytes(version)));
     }
     let set_count = |file: &mut Vec<u8>, count: u16| file[6..8].copy_from_slice(&count.to_le_bytes());
     cases.file(2, 0, "count 0 before no second", |file| {
@@ -535,10 +537,10 @@ fn corrections(cases: &mut Cases) {
 /// A number and a place, and what puts the fault into a case.
 pub(super) type Fault = (u32, u32, Box<dyn Fn(&mut Case)>);
 
-/// Every fault that a case can have, the first in 01's order first.
+/// Every fault that a case can have, the first in the papers' order first.
 pub(super) fn faults() -> Vec<Fault> {
     let mut all: Vec<Fault> = vec![
-        (1, 0, Box::new(|case| case.trace[4] = 2)),
+        (1, 0, Box::new(|case| case.trace[4] = 3)),
         (2, 0, Box::new(|case| case.trace[6..8].copy_from_slice(&[0xd1, 7]))),
         (3, 0, Box::new(|case| case.trace.push(0))),
     ];
@@ -559,6 +561,14 @@ pub(super) fn faults() -> Vec<Fault> {
         all.push((6, gear, Box::new(move |case| rise(&mut case.vehicle.ndv))));
     }
     all.push((7, 0, Box::new(|case| (case.vehicle.power, case.vehicle.mass) = (3000, 304))));
+    for at in 1..=4 {
+        let mark = if at % 2 == 0 { 8 } else { 4 };
+        let put = move |case: &mut Case| {
+            case.vehicle.rule_set = 2;
+            case.trace[6 + 4 * at as usize] |= mark;
+        };
+        all.push((20, at, Box::new(put)));
+    }
     all.push((8, 0, Box::new(|case| case.start = 1)));
     for at in 1..=4 {
         all.push((9, at, Box::new(move |case| case.trace[4 + 4 * at as usize..][..4].copy_from_slice(&second("a@1237")))));
@@ -571,7 +581,8 @@ pub(super) fn faultless() -> Case {
     lent(trace("s a@100 c@200 d@100"), BESIDE[6].vehicle(8))
 }
 
-/// "Lowest number first; within a number the first place": each of the faults with the next, and with all that come after it.
+/// "Lowest number first; within a number the first place" (01), and 20 "directly after 7" (02, M-109): each of the faults with the next, and with all that come
+/// after it.
 fn in_order(cases: &mut Cases, faults: &[Fault]) {
     let base = faultless();
     cases.taken("the case that gets the faults below", base.clone());
@@ -622,7 +633,7 @@ pub fn cases() -> Vec<Directed> {
         clutches_after_corrections,
         rule_sets::ranges,
     ];
-    groups.iter().chain(&rule_sets::GROUPS).chain(&tenths::GROUPS).for_each(|group| group(&mut cases));
+    groups.iter().chain(&rule_sets::GROUPS).chain(&tenths::GROUPS).chain(&versions::GROUPS).for_each(|group| group(&mut cases));
     for (line, directed) in (3..).step_by(2).zip(&mut cases.0) {
         directed.case.buffer = Random::new(line).bytes(directed.case.buffer.len());
     }

@@ -3,6 +3,7 @@
 use ylhovesko::gear::Vehicle;
 
 use super::gear::{faultless, faults, lent, long, trace, vehicle, Beside, Cases, ANNEX_13, BESIDE, EIGHT, TALL};
+use crate::trace::unmarked;
 
 /// All but the ranges, which the shift speeds have too.
 pub(super) const GROUPS: [fn(&mut Cases); 8] =
@@ -73,7 +74,8 @@ fn to_first(cases: &mut Cases) {
     let seconds = "c@700 c@600 c@140 c@120 c@120 s d@140 d@120";
     let rows = ["4/in 3/in 2/in 2/out 2/out 1/out 2/in 2/out", "4/in 3/in 2/in 1/out 1/out 1/out 2/in 1/out"];
     cases.both_sets("down to a stop and from it", TALL, seconds, rows);
-    cases.taken("rule set 2, 2,000 seconds", lent(long(2000), by_set_2(TALL)));
+    cases.refused(20, 5, "rule set 2, 2,000 seconds with marks", lent(long(2000), by_set_2(TALL)));
+    cases.taken("rule set 2, 2,000 seconds without marks", lent(unmarked(long(2000)), by_set_2(TALL)));
 }
 
 /// The line 1,000 n + 30 (s - n) for the least and the greatest n and s, and 0.001 per minute beside it.
@@ -138,7 +140,9 @@ fn to_first_above_3_to_2(cases: &mut Cases) {
     for phase in ["c", "d"] {
         cases.both_sets("a tenth below 2 to 1, above 3 to 2", equal, &format!("{phase}@139"), ["3/out", "1/in"]);
         cases.both_sets("at 2 to 1, above 3 to 2", equal, &format!("{phase}@140"), ["3/out"; 2]);
-        cases.both_sets("gear 1 goes first where it is forbidden too", STRONG, &format!("{phase}@140^"), ["3/out", "2/out"]);
+        let seconds = format!("{phase}@140^");
+        cases.row_with_clutch("rule set 1, gear 1 is forbidden, which goes first by set 2", STRONG, &seconds, "3/out");
+        cases.refused(20, 1, "rule set 2, gear 1 is forbidden, which goes first", lent(trace(&seconds), by_set_2(STRONG)));
     }
     cases.both_sets("acceleration below 2 to 1", STRONG, "a@131 a@132 a@147 a@148", ["1/out 2/out 2/out 2/in"; 2]);
     cases.both_sets("from 1 to 3, a step each second", STRONG, "c@147 c@148 c@148", ["3/out 3/out 3/out", "1/in 2/in 3/out"]);
@@ -204,23 +208,10 @@ fn too_close_below_2_to_1(cases: &mut Cases) {
 }
 
 /// Rows of [`EIGHT`] in which cruise and deceleration seconds have gear 1, which under set 1 is 2 before corrections.
-const CORRECTED: [(&str, &str, &str); 34] = [
+const CORRECTED: [(&str, &str, &str); 18] = [
     ("1, the smaller is the second's own", "a3 d2 d1 d1", "3 2 1 1"),
     ("1, the smaller is the run's last", "a1 d3 d1 d2", "1 1 1 1"),
     ("1, not past a cruise", "a1 c1 d2", "1 1 2"),
-    ("1 before 2", "a2 d1^ d1", "2 2 1"),
-    ("2, cruise", "c1^ c1", "2 1"),
-    ("2, deceleration", "d1^ d1^", "2 2"),
-    ("2, after a stop", "s c1^ c1", "1 2 1"),
-    ("2, not at another gear", "c2^ c1", "2 1"),
-    ("3, gear 1 stays", "c1 c2= c3=", "1 1 1"),
-    ("3, gear 1 comes late", "c2 c1= c1", "2 2 1"),
-    ("3, 2 in place of 1", "c1 c3=^ c2", "1 2 2"),
-    ("3, 2 in place of 1, and from there on", "c1 c1=^ c1=", "1 2 2"),
-    ("3, not after a stop", "s c1= c1=", "1 1 1"),
-    ("3, not at the first second", "c1= c2", "1 2"),
-    ("2 before 3", "c1^ c1=", "2 2"),
-    ("2 at the first second, 3 not", "c1=^", "2"),
     ("4, not after a cruise", "a2 a1 c1 a1", "2 2 1 1"),
     ("4 before 5", "c1 a3 a2", "1 2 3"),
     ("5, upwards from 1", "c1 c3 c3", "1 2 3"),
@@ -231,14 +222,31 @@ const CORRECTED: [(&str, &str, &str); 34] = [
     ("6, a run takes 1", "c1 c2 c1", "1 1 1"),
     ("6, a run of four takes 1", "c1 c2 c2 c2 c2 d1", "1 1 1 1 1 1"),
     ("6, a run of five does not", "c1 c2 c2 c2 c2 c2 d1", "1 2 2 2 2 2 1"),
-    ("6, not 1 where its use is forbidden", "c1 c2^ c1", "1 2 1"),
-    ("6, the mark of a neighbour", "c1 c2 c1 c1^", "1 1 1 2"),
     ("6, a run of 1 goes", "c2 c1 c1 c1 c1 c2", "2 2 2 2 2 2"),
     ("6, a run of five 1 stays", "c2 c1 c1 c1 c1 c1 c2", "2 1 1 1 1 1 2"),
     ("6, run after run", "c2 c1 c2 c1 c2 c1", "2 2 2 2 2 1"),
     ("6, between stops", "s c1 c2 c1 s", "1 1 1 1 1"),
     ("5 before 6", "c1 c4 c4 c1 c1", "1 2 2 2 1"),
-    ("2 before 6", "c2 c1^ c2", "2 2 2"),
+];
+
+/// Rows with marks, on which corrections 2, 3 and 6 acted under set 2 until M-109, with the first marked second.
+const MARKED: [(&str, &str, u32); 16] = [
+    ("1 before 2", "a2 d1^ d1", 2),
+    ("2, cruise", "c1^ c1", 1),
+    ("2, deceleration", "d1^ d1^", 1),
+    ("2, after a stop", "s c1^ c1", 2),
+    ("2, not at another gear", "c2^ c1", 1),
+    ("3, gear 1 stays", "c1 c2= c3=", 2),
+    ("3, gear 1 comes late", "c2 c1= c1", 2),
+    ("3, 2 in place of 1", "c1 c3=^ c2", 2),
+    ("3, 2 in place of 1, and from there on", "c1 c1=^ c1=", 2),
+    ("3, not after a stop", "s c1= c1=", 2),
+    ("3, not at the first second", "c1= c2", 1),
+    ("2 before 3", "c1^ c1=", 1),
+    ("2 at the first second, 3 not", "c1=^", 1),
+    ("6, not 1 where its use is forbidden", "c1 c2^ c1", 2),
+    ("6, the mark of a neighbour", "c1 c2 c1 c1^", 4),
+    ("2 before 6", "c2 c1^ c2", 2),
 ];
 
 /// Corrections see no set.
@@ -247,6 +255,9 @@ fn corrections(cases: &mut Cases) {
         let words = format!("rule set 2, correction {words}: {seconds} gives");
         cases.gears(&words, lent(trace(seconds), by_set_2(EIGHT)), gears);
     }
+    for (words, seconds, at) in MARKED {
+        cases.refused(20, at, &format!("rule set 2, correction {words}: {seconds}"), lent(trace(seconds), by_set_2(EIGHT)));
+    }
 }
 
 /// The clutch goes by the final gear under set 2 too. In [`TALL`] 12.7 km/h has it in in gear 1 and out in gear 2, 12.4 km/h out in both.
@@ -254,15 +265,10 @@ fn clutches(cases: &mut Cases) {
     let rows = [
         ("gear 1, in at equality", "c@124 c@125 d@126", "1/out 1/in 1/in"),
         ("correction 1 leaves gear 1", "a@600 d@127", "2/in 1/in"),
-        ("correction 2 puts gear 2 for 1", "c@127^ c@127", "2/out 1/in"),
-        ("correction 3 keeps gear 2", "c@140 c@127=", "2/in 2/out"),
-        ("correction 3 keeps gear 1", "c@127 c@140=", "1/in 1/in"),
-        ("correction 3 puts gear 2 for 1", "c@127 c@127=^", "1/in 2/out"),
         ("correction 4 after a cruise in gear 1", "c@127 a@127", "1/in 1/in"),
         ("correction 5 cuts to gear 2", "c@600 c@127 c@127", "3/in 2/out 1/in"),
         ("correction 6 puts gear 2 for 1", "c@140 c@127 c@140", "2/in 2/out 2/in"),
         ("correction 6 puts gear 1 for 2", "c@127 c@130 c@127", "1/in 1/in 1/in"),
-        ("correction 6, not where 1 is forbidden", "c@127 c@131^ c@127", "1/in 2/in 1/in"),
     ];
     for (words, seconds, row) in rows {
         cases.row_with_clutch(&format!("rule set 2, {words}"), by_set_2(TALL), seconds, row);
