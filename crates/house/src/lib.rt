@@ -1,7 +1,9 @@
 // The house file (01, Trace), byte by byte, and what its flags say. No other crate knows where a byte stands. Seconds count from 0 here.
 ghost use mathlib.Core.Path.{_≡_};
+ghost use mathlib.Core.Bool.{cond};
 ghost use mathlib.Core.List.{_++_};
 ghost use Prim.Native.Nat.{_+_, _<_, _≤_};
+ghost use lib.Dec.{eqb};
 ghost use lib.ListN.{length, drop};
 ghost use Rattle.house.specs.House.{sixteenAt, versionOf, readable, allows, headed, countOf, Lasts};
 ghost use Rattle.house.specs.House.{speedAt, flagsAt, stop, stopAt, acceleration, deceleration, noShift, noFirst, marked, markedAt, secondGood};
@@ -104,10 +106,18 @@ fn is_readable(version: usize) -> bool
     (version == 1) | (version == 2)
 }
 
+// The greatest flags of a version that is read.
+fn most_flags(version: usize) -> u8
+    ensures { λ r. ⌜ r ≡ cond (eqb version 1) 15 3 ⌝ }
+{
+    if version == 1 { 15 } else { 3 }
+}
+
+// One comparison a second: what the version decides is the same for all seconds of a trace.
 fn is_allowed(version: usize, flags: u8) -> bool
     ensures { λ r. ⌜ r ≡ allows version flags ⌝ }
 {
-    ((version == 1) & (flags <= 15)) | ((version == 2) & (flags <= 3))
+    is_readable(version) & (flags <= most_flags(version))
 }
 
 // Of a trace with room for a head: the mark, the zero byte and the version.
