@@ -160,8 +160,8 @@ ylhovesko_tenths ylhovesko_shift_tenths(ylhovesko_vehicle vehicle);
 
 /*
  * The writer of traces: version 2, at the front of the buffer; the bytes behind it stay. The seconds are lent as pairs in one list, of each its speed in
- * 0.1 km/h and then its phase, so seconds_length is twice their count. ylhovesko_gears and ylhovesko_judge_pair take every trace that it has written, and
- * read the same seconds there.
+ * 0.1 km/h and then its phase, so seconds_length is twice their count. ylhovesko_gears and ylhovesko_judge_pair read the same seconds in what it has
+ * written, and find nothing of 1 to 4 or 20 there.
  *
  *     const uint16_t seconds[][2] = {{0, 0}, {83, 1}, {83, 2}};
  *     uint8_t file[YLHOVESKO_TRACE_BYTES(3)];
