@@ -7,6 +7,10 @@ use lib.Dec.{eqb, leb}
 use borrow.Author.Tests.{leb-true, ne-eqb}
 use Rattle.house.specs.House.{allows, noShift, noFirst, marked}
 
+pub or-false : (b : Bool) → b ≡ (b || false)
+or-false true = refl
+or-false false = refl
+
 -- where one of two holds, so does what follows from both
 of-either : {P : Type 0} (a b : Bool) → (a || b) ≡ true → (a ≡ true → P) → (b ≡ true → P) → P
 of-either true b e p q = p refl

@@ -15,6 +15,7 @@ use Rattle.refusal.specs.declared.Refusal.the-variants.{Header, Count, Length, 
 use Rattle.refusal.specs.Judging.{checked}
 use Rattle.walk.proofs.Same.{scan-same, scan-good}
 use Rattle.house.specs.House.{versionOf, readable, allows, headed, countOf, speedAt, flagsAt, zeroAt, noShift, noFirst, marked, markedAt, secondGood}
+use Rattle.house.proofs.Versions.{or-false}
 use Rattle.trace.specs.Judging.{countable, judgeSeconds, judgeTrace, judgeMarks}
 use Rattle.trace.specs.Versions.{inVersion2, Plain}
 
@@ -98,10 +99,6 @@ module _ (trace : List ℕ) (plain : Plain trace) where
   allowed-same k l =
       (λ i. allows (version-second i) (flags-same k i)) ∙ sym (phase-alone (flagsAt trace k) (plain .unmarked k l)) ∙ or-false (leb (flagsAt trace k) 15)
       ∙ sym (ap (λ (version : ℕ). allows version (flagsAt trace k)) (plain .first))
-    where
-      or-false : (b : Bool) → b ≡ (b || false)
-      or-false true = refl
-      or-false false = refl
 
   good-same : (k : ℕ) → k < countOf trace → secondGood second k ≡ secondGood trace k
   good-same k l = (λ i. leb (speeds-same k i) 2000 && allowed-same k l i && eqb (zero-same k i) 0)

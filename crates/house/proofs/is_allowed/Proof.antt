@@ -6,16 +6,13 @@ use native.Mathlib.Omega.{arith}
 use borrow.Author.Tests.{eqb-true, ne-eqb}
 use lib.Dec.{eqb, leb}
 use Rattle.house.specs.House.{readable, allows}
+use Rattle.house.proofs.Versions.{or-false}
 use Rattle.house.proofs.is_allowed.Statement.{statement}
 use Rattle.house.proofs.is_allowed.Tie as tie
 
 by-most : (version flags : ℕ) → (readable version && leb flags (cond (eqb version 1) 15 3)) ≡ allows version flags
 by-most version flags = go (eqb version 1) refl
   where
-    or-false : (b : Bool) → b ≡ (b || false)
-    or-false true = refl
-    or-false false = refl
-
     go : (b : Bool) → eqb version 1 ≡ b → ((b || eqb version 2) && leb flags (cond b 15 3)) ≡ ((b && leb flags 15) || (eqb version 2 && leb flags 3))
     go true e =
         let one = eqb-true version 1 e in
