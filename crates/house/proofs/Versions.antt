@@ -1,11 +1,13 @@
--- What a version allows, and marks: version 2 has none, and version 1 without any has the flags of version 2. Assumes nothing.
+-- What a version allows, and marks: version 2 has none, and version 1 without any has the flags of version 2; what 1 and 4 leave. Assumes nothing.
 use mathlib.Core.Path.{_≡_, refl, sym}
 use mathlib.Core.Bool.{Bool, true, false, _&&_, _||_, false≢true}
+use mathlib.Core.List.{List}
 use Prim.Native.Nat.{ℕ, _/_, _%_, _≤_}
 use native.Mathlib.Omega.{arith}
 use lib.Dec.{eqb, leb}
+use lib.ListN.{length, getD}
 use borrow.Author.Tests.{leb-true, ne-eqb}
-use Rattle.house.specs.House.{allows, noShift, noFirst, marked}
+use Rattle.house.specs.House.{versionOf, readable, allows, headed, noShift, noFirst, marked, goodIn}
 
 pub or-false : (b : Bool) → b ≡ (b || false)
 or-false true = refl
@@ -28,6 +30,21 @@ allowed-most version flags e =
 
 pub allowed-second : (flags : ℕ) → allows 2 flags ≡ true → flags ≤ 3
 allowed-second flags e = leb-true flags 3 e
+
+-- what 4 leaves of a second
+pub good-second : (version speed flags fourth : ℕ) → goodIn version speed flags fourth ≡ true → (speed ≤ 2000) × (allows version flags ≡ true)
+good-second version speed flags fourth e =
+    let slow = leb speed 2000 in
+    let known = allows version flags in
+    let two = both-true slow known (both-true (slow && known) (eqb fourth 0) e .0) in
+    (leb-true speed 2000 (two .0), two .1)
+
+-- and 1 of a version
+pub headed-readable : (trace : List ℕ) → headed trace ≡ true → readable (versionOf trace) ≡ true
+headed-readable trace e =
+    let marks = eqb (getD trace 0 0) 87 && eqb (getD trace 1 0) 84 && eqb (getD trace 2 0) 82 && eqb (getD trace 3 0) 0 in
+    let known = readable (versionOf trace) in
+    both-true marks known (both-true (leb 8 (length trace)) (marks && known) e .1) .1
 
 neither-set : (a b : Bool) → a ≡ false → b ≡ false → (a || b) ≡ false
 neither-set false false e f = refl

@@ -82,10 +82,16 @@ stopAt trace k = stop (flagsAt trace k)
 abbrev pub noFirstAt : List ℕ → ℕ → Bool
 noFirstAt trace k = noFirst (flagsAt trace k)
 
--- 02, M-109: whether the second makes it "a marked version 1 trace"
+-- 02, M-109: whether a second with the flags makes it "a marked version 1 trace"
+abbrev pub markedIn : ℕ → ℕ → Bool
+markedIn version flags = eqb version 1 && marked flags
+
 abbrev pub markedAt : List ℕ → ℕ → Bool
-markedAt trace k = eqb (versionOf trace) 1 && marked (flagsAt trace k)
+markedAt trace k = markedIn (versionOf trace) (flagsAt trace k)
 
 -- 4: "speed, flags or fourth byte wrong": the speed 0 to 2,000, the flags as the version allows them, the fourth byte zero
+abbrev pub goodIn : ℕ → ℕ → ℕ → ℕ → Bool
+goodIn version speed flags fourth = leb speed 2000 && allows version flags && eqb fourth 0
+
 abbrev pub secondGood : List ℕ → ℕ → Bool
-secondGood trace k = leb (speedAt trace k) 2000 && allows (versionOf trace) (flagsAt trace k) && eqb (zeroAt trace k) 0
+secondGood trace k = goodIn (versionOf trace) (speedAt trace k) (flagsAt trace k) (zeroAt trace k)

@@ -6,7 +6,7 @@ ghost use Prim.Native.Nat.{_+_, _<_, _≤_};
 ghost use lib.Dec.{eqb};
 ghost use lib.ListN.{length, drop};
 ghost use Rattle.house.specs.House.{sixteenAt, versionOf, readable, allows, headed, countOf, Lasts};
-ghost use Rattle.house.specs.House.{speedAt, flagsAt, stop, stopAt, acceleration, deceleration, noShift, noFirst, marked, markedAt, secondGood};
+ghost use Rattle.house.specs.House.{speedAt, flagsAt, stop, stopAt, acceleration, deceleration, noShift, noFirst, marked, markedIn, markedAt, goodIn, secondGood};
 ghost use Rattle.house.specs.Written.{headOf, withSecond};
 
 // That a byte is below 256 is said here once, for all sums of bytes.
@@ -100,7 +100,7 @@ fn version_of(trace: &[u8]) -> usize
     sixteen(trace, 4)
 }
 
-fn is_readable(version: usize) -> bool
+pub fn is_readable(version: usize) -> bool
     ensures { λ r. ⌜ r ≡ readable version ⌝ }
 {
     (version == 1) | (version == 2)
@@ -130,22 +130,40 @@ pub fn has_head(trace: &[u8]) -> bool
 }
 
 // What refusal 20 is given for: a mark in version 1, which in version 2 would be refusal 4.
+pub fn marked_in(version: usize, flags: u8) -> bool
+    ensures { λ r. ⌜ r ≡ markedIn version flags ⌝ }
+{
+    let marked = is_marked(flags);
+    (version == 1) & marked
+}
+
+// The same of second k.
 pub fn marked_at(trace: &[u8], k: usize) -> bool
     requires { ⌜ Lasts (now trace) (k + 1) ⌝ }
     ensures { λ r. ⌜ r ≡ markedAt (now (trace .entry)) k ⌝ }
 {
-    let marked = is_marked(flags_at(trace, k));
-    (version_of(trace) == 1) & marked
+    marked_in(version_of(trace), flags_at(trace, k))
 }
 
-// What refusal 4 asks of second k.
+// What refusal 4 asks of a second.
+pub fn good_in(version: usize, speed: usize, flags: u8, fourth: u8) -> bool
+    ensures { λ r. ⌜ r ≡ goodIn version speed flags fourth ⌝ }
+{
+    let allowed = is_allowed(version, flags);
+    (speed <= 2000) & allowed & (fourth == 0)
+}
+
+// The same of second k.
 pub fn is_good(trace: &[u8], k: usize) -> bool
     requires { ⌜ Lasts (now trace) (k + 1) ⌝ }
     ensures { λ r. ⌜ r ≡ secondGood (now (trace .entry)) k ⌝ }
 {
-    let speed = speed_at(trace, k);
-    let allowed = is_allowed(version_of(trace), flags_at(trace, k));
-    (speed <= 2000) & allowed & (trace[4 * k + 11] == 0)
+    good_in(
+        version_of(trace),
+        speed_at(trace, k),
+        flags_at(trace, k),
+        trace[4 * k + 11],
+    )
 }
 
 // The head of a file of version 2 with n seconds.

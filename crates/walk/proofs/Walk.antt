@@ -42,6 +42,18 @@ module _ {A : Type 0} (good : ℕ → Bool) (out done : ℕ → A) where
   pub scan-out : (n k : ℕ) → k < n → good k ≡ false → scan good out done k (n - k) ≡ out k
   scan-out n k h e = at n k h e
 
+  -- the first that is not good, of n from the start
+  pub scan-first : (n k : ℕ) → k < n → ((i : ℕ) → i < k → good i ≡ true) → good k ≡ false → scan good out done 0 n ≡ out k
+  scan-first n k l all bad =
+      let whole : n ≡ n - 0 = omega arith in
+      ap (scan good out done 0) whole ∙ from k 0 (omega arith)
+    where
+      from : (more m : ℕ) → k ≡ more + m → scan good out done m (n - m) ≡ out k
+      from zero m is =
+          let here : m ≡ k = omega arith in
+          ap (λ (m : ℕ). scan good out done m (n - m)) here ∙ scan-out n k l bad
+      from (suc more) m is = scan-on n m (omega arith) (all m (omega arith)) ∙ from more (m + 1) (omega arith)
+
   -- none is left
   pub scan-done : (n k : ℕ) → n ≤ k → scan good out done k (n - k) ≡ done k
   scan-done n k h =

@@ -1,12 +1,14 @@
--- `house::marked_at` meets its contract: its one expression is the definition's. Assumes nothing.
+-- `house::marked_at` meets its contract. Assumes nothing.
+use mathlib.Core.Path.{_∙_}
 use borrow.Author.Needs.{needs}
+use Rattle.house.specs.House.{markedIn}
 use Rattle.house.proofs.marked_at.Statement.{statement}
 use Rattle.house.proofs.marked_at.Tie as tie
 
 returns : tie.Need-returns
 returns c =
-    let marked = c .before in
-    rw (c .version-of .ensures, marked .is-marked .ensures, marked .before .flags-at .ensures)
+    let flags = c .before in
+    c .marked-in .ensures ∙ (λ i. markedIn (flags .before .version-of .ensures i) (flags .flags-at .ensures i))
 
 pub marked-at-spec : {M : Type 1} → statement M
-marked-at-spec = tie.close (tie.spec (λ c κs. search needs) (λ c κs. tt) (λ c κs. search needs) returns)
+marked-at-spec = tie.close (tie.spec (λ c κs. search needs) (λ c κs. search needs) (λ c κs. tt) returns)
