@@ -1,12 +1,10 @@
 // The clutch of each second of a finished row (01, Gear of each second; 02, M-100).
 use vehicle::VehicleSheet;
 ghost use mathlib.Core.Path.{_≡_};
-ghost use Prim.Native.Nat.{_≤_};
 ghost use Rattle.row.specs.Row.{HaveSeconds};
 ghost use Rattle.clutch.specs.Clutch.{clutchOf, clutchBy, withClutch};
 
 pub fn clutch_of(v: VehicleSheet, flags: u8, speed: u32, gear: u8) -> u8
-    requires { ⌜ v .idle ≤ v .rated ⌝ }
     ensures { λ r. ⌜ r ≡ clutchOf v flags speed gear ⌝ }
 {
     if house::is_stop(flags) | (speed < 100) | vehicle::below_lowest(v, gear, speed) {
@@ -18,7 +16,7 @@ pub fn clutch_of(v: VehicleSheet, flags: u8, speed: u32, gear: u8) -> u8
 
 // The clutch of each second, by the gear that the row has there.
 pub fn set_clutch(v: VehicleSheet, trace: &[u8], row: &mut [u8], n: usize)
-    requires { ⌜ (v .idle ≤ v .rated) × (HaveSeconds (now trace) (now row) n) ⌝ }
+    requires { ⌜ HaveSeconds (now trace) (now row) n ⌝ }
     ensures { λ _. ⌜ now (row .exit) ≡ withClutch (clutchBy v (now (trace .entry))) (now (row .entry)) n ⌝ }
 {
     let mut k = 0;

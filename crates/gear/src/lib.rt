@@ -16,7 +16,7 @@ ghost use Rattle.gear.specs.Sheet.{rowFrom, marksBy, judgeSheet, gearAns
 
 // The finished row, over all of a slice.
 fn finish(v: VehicleSheet, trace: &[u8], own: &[u8], row: &mut [u8], n: usize)
-    requires { ⌜ (v .idle ≤ v .rated) × (HaveSeconds (now trace) (now row) n) × (length (now row) ≡ 2 * n) × (n ≤ length (now own)) ⌝ }
+    requires { ⌜ (HaveSeconds (now trace) (now row) n) × (length (now row) ≡ 2 * n) × (n ≤ length (now own)) ⌝ }
     ensures { λ _. ⌜ now (row .exit) ≡ rowFrom v (λ k. getD (now (own .entry)) k 0) (now (trace .entry)) n ⌝ }
 {
     phase::first_row(trace, own, row, n);
@@ -26,7 +26,7 @@ fn finish(v: VehicleSheet, trace: &[u8], own: &[u8], row: &mut [u8], n: usize)
 
 // The row at the front of a longer part, whose other bytes stay.
 fn into_part(v: VehicleSheet, trace: &[u8], own: &[u8], part: &mut [u8], n: usize)
-    requires { ⌜ (v .idle ≤ v .rated) × (HaveSeconds (now trace) (now part) n) × (n ≤ length (now own)) ⌝ }
+    requires { ⌜ (HaveSeconds (now trace) (now part) n) × (n ≤ length (now own)) ⌝ }
     ensures { λ _. ⌜ now (part .exit) ≡ rowFrom v (λ k. getD (now (own .entry)) k 0) (now (trace .entry)) n ++ drop (2 * n) (now (part .entry)) ⌝ }
 {
     let m = 2 * n;

@@ -2,13 +2,14 @@
 use mathlib.Core.Path.{_≡_, refl, sym, ap, _∙_}
 use mathlib.Core.Bool.{Bool, true, false, not, cond}
 use mathlib.Core.List.{List}
-use Prim.Native.Nat.{ℕ, _<_}
+use Prim.Native.Nat.{ℕ, _≤_, _<_}
 use native.Mathlib.Omega.{arith}
 use lib.ListN.{set}
 use Rattle.refusal.specs.declared.Judged.{Judged}
 use Rattle.refusal.specs.declared.Judged.the-variants.{Accepted}
 use Rattle.walk.proofs.Same.{inTurn-same, scan-same, scan-good}
-use Rattle.house.specs.House.{flagsAt, speedAt, stop, acceleration}
+use Rattle.house.specs.House.{flagsAt, speedAt, stop, acceleration, goodIn}
+use Rattle.house.proofs.Versions.{good-second}
 use Rattle.vehicle.specs.declared.VehicleSheet.{VehicleSheet}
 use Rattle.vehicle.specs.Sheet.{Sound}
 use Rattle.shift.specs.declared.Shift.{Shift}
@@ -27,12 +28,19 @@ module _ {v : VehicleSheet} (sound : Sound v) where
   abbrev t : Tenths
   t = tenthsOf (shiftOf v)
 
+  pub second-by-tenths : (flags speed : ℕ) → speed ≤ 2000 → secondByTenths t flags speed ≡ ownSecond (shiftOf v) flags speed
+  unfolding secondByTenths ownSecond
+  second-by-tenths flags speed few =
+      ap (λ (own : Own). cond (stop flags) (record { gear = 0; close = false }) own)
+      (own-by-tenths (vehicle-worked sound) speed few (in-order sound) (acceleration flags))
+
+  -- so a second that 4 takes
+  pub good-by-tenths : (version flags speed fourth : ℕ) → goodIn version speed flags fourth ≡ true → secondByTenths t flags speed ≡ ownSecond (shiftOf v) flags speed
+  good-by-tenths version flags speed fourth good = second-by-tenths flags speed (good-second version speed flags fourth good .0)
+
   module _ (trace : List ℕ) (n : ℕ) (ready : Ready (shiftOf v) trace n) where
     second-same : (k : ℕ) → k < n → secondAt t trace k ≡ ownAt (shiftOf v) trace k
-    unfolding secondByTenths ownSecond
-    second-same k l =
-        ap (λ (own : Own). cond (stop (flagsAt trace k)) (record { gear = 0; close = false }) own)
-        (own-by-tenths (vehicle-worked sound) (speedAt trace k) (ready .speeds k l) (in-order sound) (acceleration (flagsAt trace k)))
+    second-same k l = second-by-tenths (flagsAt trace k) (speedAt trace k) (ready .speeds k l)
 
     pub put-same : (own : List ℕ) → putGears (secondAt t trace) own n ≡ putOwn (shiftOf v) trace own n
     put-same own = inTurn-same _ _ own n (λ gears k l. ap (λ (o : Own). set gears k (o .gear)) (second-same k l))

@@ -9,13 +9,11 @@ ghost use lib.ListN.{length};
 ghost use Rattle.house.specs.House.{Lasts};
 ghost use Rattle.vehicle.specs.Sheet.{Sound};
 ghost use Rattle.shift.specs.Speeds.{shiftOf};
-ghost use Rattle.tenths.specs.Choice.{WithLast};
 ghost use Rattle.own.specs.Own.{judgeOwn, judgeClose, putGears, gearsAfter, Ready};
 ghost use Rattle.own.specs.ByTenths.{secondByTenths, secondAt, judgeMarked};
 
 // The gear that a second's speed gives, which a stop second does not take. It is worked out there too: without a branch the compiler works on many seconds at once.
 pub fn own_second(t: Tenths, flags: u8, speed: u16) -> u8
-    requires { ⌜ WithLast t ⌝ }
     ensures { λ r. ⌜ r ≡ secondByTenths t flags speed .gear ⌝ }
 {
     let gear = tenths::own_gear(t, house::is_acceleration(flags), speed);
@@ -24,7 +22,6 @@ pub fn own_second(t: Tenths, flags: u8, speed: u16) -> u8
 
 // Whether it is too close to call.
 pub fn is_close(t: Tenths, flags: u8, speed: u16) -> bool
-    requires { ⌜ WithLast t ⌝ }
     ensures { λ r. ⌜ r ≡ secondByTenths t flags speed .close ⌝ }
 {
     if house::is_stop(flags) {
@@ -35,7 +32,7 @@ pub fn is_close(t: Tenths, flags: u8, speed: u16) -> bool
 
 // Refusal 9.
 fn judge_own(t: Tenths, trace: &[u8], n: usize) -> Judged
-    requires { ⌜ (WithLast t) × (Lasts (now trace) n) × (n ≤ 2000) ⌝ }
+    requires { ⌜ (Lasts (now trace) n) × (n ≤ 2000) ⌝ }
     ensures { λ r. ⌜ r ≡ judgeOwn (secondAt t (now (trace .entry))) 0 n ⌝ }
 {
     let mut k = 0;
@@ -52,7 +49,7 @@ fn judge_own(t: Tenths, trace: &[u8], n: usize) -> Judged
 
 // It is sought only where a tenth is marked.
 fn judge_marked(t: Tenths, trace: &[u8], n: usize) -> Judged
-    requires { ⌜ (WithLast t) × (Lasts (now trace) n) × (n ≤ 2000) ⌝ }
+    requires { ⌜ (Lasts (now trace) n) × (n ≤ 2000) ⌝ }
     ensures { λ r. ⌜ r ≡ judgeMarked t (now (trace .entry)) n ⌝ }
 {
     if tenths::is_marked(t) {
@@ -63,7 +60,7 @@ fn judge_marked(t: Tenths, trace: &[u8], n: usize) -> Judged
 
 // The gears, with no exit from the loop.
 fn put_gears(t: Tenths, trace: &[u8], own: &mut [u8], n: usize)
-    requires { ⌜ (WithLast t) × (Lasts (now trace) n) × (n ≤ 2000) × (n ≤ length (now own)) ⌝ }
+    requires { ⌜ (Lasts (now trace) n) × (n ≤ 2000) × (n ≤ length (now own)) ⌝ }
     ensures { λ _. ⌜ now (own .exit) ≡ putGears (secondAt t (now (trace .entry))) (now (own .entry)) n ⌝ }
 {
     let mut k = 0;

@@ -1,8 +1,7 @@
 -- What an accepted sheet gives the tenths, and how many tenths there can be. Assumes nothing.
-use Prim.Native.Nat.{ℕ, _-_, _*_, _≤_, _<_}
+use Prim.Native.Nat.{ℕ, _*_, _≤_}
 use native.Mathlib.Omega.{arith}
 use lib.IntN.{natAbs}
-use Rattle.walk.proofs.Listed.{listed-at}
 use Rattle.arith.specs.declared.Ends.{Ends}
 use Rattle.arith.specs.Fitting.{Sized}
 use Rattle.arith.specs.Rounding.{divDown, divUp}
@@ -13,8 +12,7 @@ use Rattle.shift.specs.Speeds.{shiftOf}
 use Rattle.shift.proofs.Sides.{shift-ranges}
 use Rattle.speeds.specs.Upshifts.{largestSide}
 use Rattle.speeds.proofs.Sizes.{vehicle-geared}
-use Rattle.tenths.specs.Least.{tenth, leastAt, tenthsOf, Worked}
-use Rattle.tenths.specs.Choice.{WithLast}
+use Rattle.tenths.specs.Least.{tenth, Worked}
 
 pub vehicle-worked : {v : VehicleSheet} → Sound v → Worked (shiftOf v)
 unfolding shiftOf
@@ -36,14 +34,3 @@ module _ {side : Ends} (size : Sized largestSide side) {ndv : ℕ} (some : 1000 
   pub upon-most : natAbs (divUp (side .lower) (tenth ndv)) ≤ 60000
   unfolding most
   upon-most = up-size (side .lower) (42949672960 * ndv) most (omega arith) (omega (arith, size .lower, room))
-
--- the last upshift is one of the seven
-pub vehicle-last : {v : VehicleSheet} → Sound v → WithLast (tenthsOf (shiftOf v))
-unfolding tenthsOf shiftOf
-vehicle-last {v} sound =
-    let g = sound .ranged .gears in
-    let at : v .gears - 2 < 7 = omega (arith, g) in
-    record {
-      above = record { place = v .gears - 2; within = at; there = listed-at (λ i. leastAt (shiftOf v) i .above) 7 (v .gears - 2) 0 at };
-      notBelow = record { place = v .gears - 2; within = at; there = listed-at (λ i. leastAt (shiftOf v) i .«not_below») 7 (v .gears - 2) 0 at };
-    }

@@ -1,8 +1,7 @@
 -- 02, M-106: "choose gears from those whole numbers". 01, Gear of each second, by the least tenths.
 use mathlib.Core.Bool.{Bool, true, false, not, cond}
 use mathlib.Core.List.{List}
-use mathlib.Core.Path.{_≡_}
-use Prim.Native.Nat.{ℕ, _+_, _-_, _<_}
+use Prim.Native.Nat.{ℕ, _+_, _-_}
 use lib.ListN.{getD}
 use lib.Dec.{eqb, leb, ltb}
 use Rattle.shift.specs.Speeds.{count, Own}
@@ -39,13 +38,3 @@ markAt above notBelow i = ltb (getD notBelow i 0) (getD above i 0)
 
 unfoldable pub marked : Tenths → Bool
 marked t = ltb 0 (count (markAt (t .above) (t .«not_below»)) 7)
-
--- the last is one of the seven
-pub record Among (least : List ℕ) (last : ℕ) : Type 0 where
-  pub place : ℕ
-  pub within : place < 7
-  pub there : getD least place 0 ≡ last
-
-pub record WithLast (t : Tenths) : Type 0 where
-  pub above : Among (t .above) (t .last .above)
-  pub notBelow : Among (t .«not_below») (t .last .«not_below»)

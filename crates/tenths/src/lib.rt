@@ -12,9 +12,10 @@ ghost use Rattle.vehicle.specs.Sheet.{Sound};
 ghost use Rattle.shift.specs.Speeds.{shiftOf};
 ghost use Rattle.speeds.specs.Upshifts.{largestSide};
 ghost use Rattle.tenths.specs.Least.{tenth, fromZero, leastOf, leastAt, firstOf, tenthsOf, Worked};
-ghost use Rattle.tenths.specs.Choice.{reached, held, ownByTenths, marked, Among, WithLast};
+ghost use Rattle.tenths.specs.Choice.{reached, held, ownByTenths, marked};
 
 // Of one shift speed: the least tenth above it, and the least that is not below it.
+#[repr(C)]
 pub struct LeastTenths {
     pub above: u16,
     pub not_below: u16,
@@ -22,6 +23,7 @@ pub struct LeastTenths {
 
 // Of each upshift, from the first gear up; out of reach past the last. `last` is the last of them once more, which is no downshift: read here, and not at a place that
 // the compiler does not know. `first` is the least tenth at or above the downshift 2 to 1, 0 under rule set 1.
+#[repr(C)]
 pub struct Tenths {
     pub above: [u16; 7],
     pub not_below: [u16; 7],
@@ -137,17 +139,18 @@ fn reached(least: [u16; 7], speed: u16) -> u8
 
 // Those of them that count in the phase: the last upshift is no downshift.
 fn held(least: [u16; 7], last: u16, accelerating: bool, speed: u16) -> u8
-    requires { ⌜ Among least last ⌝ }
     ensures { λ r. ⌜ (r ≡ held least last accelerating speed) × (r ≤ 7) ⌝ }
 {
     let all = reached(least, speed);
     let top = one_if(last <= speed);
-    if accelerating { all } else { all - top }
+    if accelerating {
+        return all;
+    }
+    if all < top { 0 } else { all - top }
 }
 
 // The gear of a second outside stop by the sheet's rule set, before corrections.
 pub fn own_gear(t: Tenths, accelerating: bool, speed: u16) -> u8
-    requires { ⌜ WithLast t ⌝ }
     ensures { λ r. ⌜ r ≡ ownByTenths t accelerating speed .gear ⌝ }
 {
     let least = t.above;
@@ -160,7 +163,6 @@ pub fn own_gear(t: Tenths, accelerating: bool, speed: u16) -> u8
 
 // Whether any of its comparisons is too close to call. Apart from the gear, which is wanted of every second and this of hardly any.
 pub fn is_close(t: Tenths, accelerating: bool, speed: u16) -> bool
-    requires { ⌜ WithLast t ⌝ }
     ensures { λ r. ⌜ r ≡ ownByTenths t accelerating speed .close ⌝ }
 {
     let least = t.above;

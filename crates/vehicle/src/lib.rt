@@ -3,7 +3,7 @@ use refusal::Judged;
 use refusal::Refusal;
 ghost use mathlib.Core.Path.{_≡_};
 ghost use mathlib.Core.Bool.{_&&_};
-ghost use Prim.Native.Nat.{_+_, _≤_, _<_};
+ghost use Prim.Native.Nat.{_+_, _-_, _<_};
 ghost use lib.Dec.{leb};
 ghost use Rattle.refusal.specs.Ranges.{within};
 ghost use Rattle.refusal.specs.Judging.{checked, judgedBy};
@@ -134,19 +134,24 @@ fn ndv_of(ndv: [u32; 8], gear: u8) -> u32
     0
 }
 
+// s - n, and 0 of a sheet that has them the other way round.
+fn span(rated: u32, idle: u32) -> u32
+    ensures { λ r. ⌜ r ≡ rated - idle ⌝ }
+{
+    if rated < idle { 0 } else { rated - idle }
+}
+
 // n + 0.03 (s - n), in 0.001 per minute (001, 6.5.5.2.1.3).
 pub fn lowest_engine_speed(v: VehicleSheet) -> u64
-    requires { ⌜ v .idle ≤ v .rated ⌝ }
     ensures { λ r. ⌜ r ≡ lowestEngineSpeed v ⌝ }
 {
     let idle = v.idle as u64;
-    let rated = v.rated as u64;
-    1000 * idle + 30 * (rated - idle)
+    let over = span(v.rated, v.idle) as u64;
+    1000 * idle + 30 * over
 }
 
 // A speed in 0.1 km/h turns the engine slower than that in this gear.
 pub fn below_lowest(v: VehicleSheet, gear: u8, speed: u32) -> bool
-    requires { ⌜ v .idle ≤ v .rated ⌝ }
     ensures { λ r. ⌜ r ≡ belowLowest v gear speed ⌝ }
 {
     let ndv = v.ndv;

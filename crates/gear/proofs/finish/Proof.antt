@@ -19,7 +19,7 @@ returns c =
     let n = start .args .n in
     at3 .set-clutch .ensures ∙ ap (λ (row : List ℕ). withClutch (clutchBy (start .args .v) trace) row n)
     (at2 .correct .ensures ∙ ap (λ (row : List ℕ). corrected trace row n)
-    (at1 .first-row .ensures ∙ exact _ _ _ (start .pre .2)))
+    (at1 .first-row .ensures ∙ exact _ _ _ (start .pre .1)))
 
 pub finish-spec : {M : Type 1} → statement M
 finish-spec =

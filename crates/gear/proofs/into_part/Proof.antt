@@ -12,9 +12,9 @@ use Rattle.gear.proofs.into_part.Tie as tie
 finish-requires : tie.Need-finish-requires
 finish-requires c κs =
     let s = c .before .before .before .before in
-    let have = s .pre .1 in
+    let have = s .pre .0 in
     let front = length-take-le (2 * s .args .n) (s .args .part .now) (have .in-row) in
-    (s .pre .0, record { in-trace = have .in-trace; in-row = omega (arith, front) }, front, s .pre .2)
+    (record { in-trace = have .in-trace; in-row = omega (arith, front) }, front, s .pre .1)
 
 returns : tie.Need-returns
 returns c =
@@ -28,7 +28,7 @@ into-part-spec =
     (tie.spec
     (λ c. search needs)
     (λ c. search needs)
-    (λ c. sym (length-take-le _ _ (c .before .before .before .before .pre .1 .in-row)))
+    (λ c. sym (length-take-le _ _ (c .before .before .before .before .pre .0 .in-row)))
     finish-requires
     (λ c. search needs)
     returns)

@@ -3,7 +3,6 @@ use mathlib.Core.Path.{_≡_, sym, ap, _∙_}
 use borrow.Author.Needs.{needs}
 use Rattle.refusal.specs.declared.Judged.{Judged}
 use Rattle.shift.specs.Speeds.{shiftOf}
-use Rattle.tenths.proofs.Sizes.{vehicle-last}
 use Rattle.refusal.specs.Judging.{ifAccepted}
 use Rattle.own.specs.Own.{judgeClose, putOwn, gearsAfter}
 use Rattle.own.proofs.ByTenths.{put-same, marked-same}
@@ -31,7 +30,7 @@ judge-marked-requires : tie.Need-judge-marked-requires
 judge-marked-requires c κs =
     let start = c .before .before .before in
     let ready = start .pre .1 in
-    (rw (c .of-vehicle .ensures) (vehicle-last (start .pre .0)), ready .lasts, ready .few)
+    (ready .lasts, ready .few)
 
 returns : tie.Need-returns
 returns c = let judged = c .before .before in (close-is judged, after-is judged (c .enum-told2 .given .1))
@@ -41,7 +40,7 @@ put-gears-requires c κs =
     let judged = c .before .before .before in
     let begun = start judged in
     let ready = begun .pre .1 in
-    (rw (judged .before .of-vehicle .ensures) (vehicle-last (begun .pre .0)), ready .lasts, ready .few, begun .pre .2)
+    (ready .lasts, ready .few, begun .pre .2)
 
 returns-2 : tie.Need-returns-2
 returns-2 c =

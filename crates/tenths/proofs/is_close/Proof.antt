@@ -18,4 +18,4 @@ returns c =
     rw (c .held2 .ensures .0, c .before .held .ensures .0) (in-either-phase (a .t) (a .accelerating) (a .speed))
 
 pub is-close-spec : {M : Type 1} → statement M
-is-close-spec = tie.close (tie.spec (λ c κs. c .before .before .pre .above) (λ c κs. c .before .before .before .pre .notBelow) returns)
+is-close-spec = tie.close (tie.spec (λ c κs. tt) (λ c κs. tt) returns)

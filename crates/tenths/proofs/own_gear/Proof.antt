@@ -18,4 +18,4 @@ unfolding ownByTenths
 returns-3 c = let else1 = c .before .before in simp (else1 .if1 .left, le-ltb _ _ (c .if2 .left), else1 .before .held .ensures .0)
 
 pub own-gear-spec : {M : Type 1} → statement M
-own-gear-spec = tie.close (tie.spec (λ c κs. c .before .pre .above) (λ c. search needs) returns (λ c. search needs) returns-2 returns-3)
+own-gear-spec = tie.close (tie.spec (λ c κs. tt) (λ c. search needs) returns (λ c. search needs) returns-2 returns-3)
