@@ -1,0 +1,2 @@
+pub mod Prompt
+pub mod Run
