@@ -1,2 +1,3 @@
 pub mod Judging
 pub mod Ranges
+pub mod Numbers
