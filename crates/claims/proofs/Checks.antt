@@ -104,7 +104,7 @@ checksBy geared v =
 abbrev pub vehicleChecks : VehicleSheet → List Check
 vehicleChecks v = checksBy (within 3 8 (v .gears)) v
 
-vehicle-judged : (v : VehicleSheet) → judgeVehicle v ≡ judgedBy (vehicleChecks v)
+pub vehicle-judged : (v : VehicleSheet) → judgeVehicle v ≡ judgedBy (vehicleChecks v)
 unfolding judgeVehicle
 vehicle-judged v = go (within 3 8 (v .gears)) refl
   where

@@ -86,12 +86,12 @@ decides ls some =
 abbrev lineOf : Check → Line
 lineOf c = record { holds = c .holds; gives = outcomeOf (Refused (c .refusal)) }
 
-abbrev linesOf : List Check → List Line
+abbrev pub linesOf : List Check → List Line
 linesOf [] = []
 linesOf (c ∷ cs) = lineOf c ∷ linesOf cs
 
 -- what a list of checks says, as it is given out
-given-first : (cs : List Check) → outcomeOf (judgedBy cs) ≡ firstOf (linesOf cs)
+pub given-first : (cs : List Check) → outcomeOf (judgedBy cs) ≡ firstOf (linesOf cs)
 given-first [] = refl
 given-first (c ∷ cs) = go (c .holds) (given-first cs)
   where
@@ -100,16 +100,16 @@ given-first (c ∷ cs) = go (c .holds) (given-first cs)
     go true later = later
     go false later = refl
 
-lines-append : (cs ds : List Check) → linesOf (cs ++ ds) ≡ linesOf cs ++ linesOf ds
+pub lines-append : (cs ds : List Check) → linesOf (cs ++ ds) ≡ linesOf cs ++ linesOf ds
 lines-append [] ds = refl
 lines-append (c ∷ cs) ds = ap (λ (ls : List Line). lineOf c ∷ ls) (lines-append cs ds)
 
-lines-each : (good : ℕ → Bool) (refusal : ℕ → Refusal) (k n : ℕ)
+pub lines-each : (good : ℕ → Bool) (refusal : ℕ → Refusal) (k n : ℕ)
     → linesOf (each good refusal k n) ≡ lines (λ i. lineOf (check (good i) (refusal i))) k n
 lines-each good refusal k zero = refl
 lines-each good refusal k (suc n) = ap (λ (ls : List Line). lineOf (check (good k) (refusal k)) ∷ ls) (lines-each good refusal (k + 1) n)
 
-lines-where : (b : Bool) (cs : List Check) → linesOf (cond b cs []) ≡ cond b (linesOf cs) []
+pub lines-where : (b : Bool) (cs : List Check) → linesOf (cond b cs []) ≡ cond b (linesOf cs) []
 lines-where true cs = refl
 lines-where false cs = refl
 
@@ -222,7 +222,7 @@ module _ (trace : List ℕ) (v : VehicleSheet) (room start : ℕ) where
       both (further 5 a 14 l) (rising-lines _ 6 2 0 (v .gears - 1) (outcome 5 14 0 0) (seven ∷ behind) refl (behind-rising 0) (λ b k. behind-rising b))
   set-rising false a l = both (further 5 a 14 l) (behind-rising 0)
 
-  ratios-rising : rising (outcome 5 5 0 0) ((geared v ratios ++ (set ∷ (geared v falls ++ (seven ∷ [])))) ++ behind) ≡ true
+  pub ratios-rising : rising (outcome 5 5 0 0) ((geared v ratios ++ (set ∷ (geared v falls ++ (seven ∷ [])))) ++ behind) ≡ true
   ratios-rising = simp append-assoc (go (within 3 8 (v .gears)) refl)
     where
       go : (geared : Bool) → within 3 8 (v .gears) ≡ geared → rising (outcome 5 5 0 0) (cond geared ratios [] ++ (set ∷ (cond geared falls [] ++ (seven ∷ behind)))) ≡ true

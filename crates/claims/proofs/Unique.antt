@@ -35,6 +35,9 @@ use Rattle.shift.proofs as shift
 use Rattle.tenths.proofs as tenths
 use Rattle.own.proofs as own
 use Rattle.gear.proofs as gear
+use Rattle.live.proofs as live
+use Rattle.prompt.proofs as prompt
+use Rattle.prompt_crossing.proofs as prompt_crossing
 use Rattle.reading.proofs as reading
 use Rattle.bag.proofs as bag
 use Rattle.stage.proofs as stage
@@ -183,6 +186,15 @@ row-ruled-unique κs a x y ws vs pre h h′ = (h ∙ sym h′, refl)
 pub runs-correct-unique : Coincide 2 runs.correct.Kinds.ps runs.correct.Kinds.r runs.correct.Reads.Pre runs.correct.Reads.Post
 runs-correct-unique κs a x y ws vs pre h h′ = (refl, ap (λ (l : List ℕ). (tt, (l, (tt, tt)))) (h ∙ sym h′))
 
+pub house-is-readable-unique : Coincide 0 house.is_readable.Kinds.ps house.is_readable.Kinds.r house.is_readable.Reads.Pre house.is_readable.Reads.Post
+house-is-readable-unique κs a x y ws vs pre h h′ = (h ∙ sym h′, refl)
+
+pub house-marked-in-unique : Coincide 0 house.marked_in.Kinds.ps house.marked_in.Kinds.r house.marked_in.Reads.Pre house.marked_in.Reads.Post
+house-marked-in-unique κs a x y ws vs pre h h′ = (h ∙ sym h′, refl)
+
+pub house-good-in-unique : Coincide 0 house.good_in.Kinds.ps house.good_in.Kinds.r house.good_in.Reads.Pre house.good_in.Reads.Post
+house-good-in-unique κs a x y ws vs pre h h′ = (h ∙ sym h′, refl)
+
 -- ---- phase
 pub phase-first-row-unique : Coincide 3 phase.first_row.Kinds.ps phase.first_row.Kinds.r phase.first_row.Reads.Pre phase.first_row.Reads.Post
 phase-first-row-unique κs a x y ws vs pre h h′ = (refl, ap (λ (l : List ℕ). (tt, (tt, (l, (tt, tt))))) (h ∙ sym h′))
@@ -196,6 +208,43 @@ vehicle-lowest-engine-speed-unique κs a x y ws vs pre h h′ = (h ∙ sym h′,
 
 pub vehicle-below-lowest-unique : Coincide 0 vehicle.below_lowest.Kinds.ps vehicle.below_lowest.Kinds.r vehicle.below_lowest.Reads.Pre vehicle.below_lowest.Reads.Post
 vehicle-below-lowest-unique κs a x y ws vs pre h h′ = (h ∙ sym h′, refl)
+
+-- ---- the live engine
+pub live-fresh-unique : Coincide 0 live.fresh.Kinds.ps live.fresh.Kinds.r live.fresh.Reads.Pre live.fresh.Reads.Post
+live-fresh-unique κs a x y ws vs pre h h′ = (h ∙ sym h′, refl)
+
+pub live-step-unique : Coincide 0 live.step.Kinds.ps live.step.Kinds.r live.step.Reads.Pre live.step.Reads.Post
+live-step-unique κs a x y ws vs pre h h′ = (h ∙ sym h′, refl)
+
+pub live-nothing-unique : Coincide 0 live.nothing.Kinds.ps live.nothing.Kinds.r live.nothing.Reads.Pre live.nothing.Reads.Post
+live-nothing-unique κs a x y ws vs pre h h′ = (h ∙ sym h′, refl)
+
+pub live-give-unique : Coincide 0 live.give.Kinds.ps live.give.Kinds.r live.give.Reads.Pre live.give.Reads.Post
+live-give-unique κs a x y ws vs pre h h′ = (h ∙ sym h′, refl)
+
+pub live-finish-unique : Coincide 0 live.finish.Kinds.ps live.finish.Kinds.r live.finish.Reads.Pre live.finish.Reads.Post
+live-finish-unique κs a x y ws vs pre h h′ = (h ∙ sym h′, refl)
+
+pub prompt-judge-begin-unique : Coincide 0 prompt.judge_begin.Kinds.ps prompt.judge_begin.Kinds.r prompt.judge_begin.Reads.Pre prompt.judge_begin.Reads.Post
+prompt-judge-begin-unique κs a x y ws vs pre h h′ = (h ∙ sym h′, refl)
+
+pub prompt-begin-unique : Coincide 0 prompt.begin.Kinds.ps prompt.begin.Kinds.r prompt.begin.Reads.Pre prompt.begin.Reads.Post
+prompt-begin-unique κs a x y ws vs pre h h′ = (h ∙ sym h′, refl)
+
+pub prompt-hear-unique : Coincide 0 prompt.hear.Kinds.ps prompt.hear.Kinds.r prompt.hear.Reads.Pre prompt.hear.Reads.Post
+prompt-hear-unique κs a x y ws vs pre h h′ = (h ∙ sym h′, refl)
+
+pub prompt-end-unique : Coincide 0 prompt.end.Kinds.ps prompt.end.Kinds.r prompt.end.Reads.Pre prompt.end.Reads.Post
+prompt-end-unique κs a x y ws vs pre h h′ = (h ∙ sym h′, refl)
+
+pub prompt-crossing-begin-unique : Coincide 0 prompt_crossing.begin.Kinds.ps prompt_crossing.begin.Kinds.r prompt_crossing.begin.Reads.Pre prompt_crossing.begin.Reads.Post
+prompt-crossing-begin-unique κs a x y ws vs pre h h′ = (h ∙ sym h′, refl)
+
+pub prompt-crossing-second-unique : Coincide 0 prompt_crossing.second.Kinds.ps prompt_crossing.second.Kinds.r prompt_crossing.second.Reads.Pre prompt_crossing.second.Reads.Post
+prompt-crossing-second-unique κs a x y ws vs pre h h′ = (h ∙ sym h′, refl)
+
+pub prompt-crossing-end-unique : Coincide 0 prompt_crossing.end.Kinds.ps prompt_crossing.end.Kinds.r prompt_crossing.end.Reads.Pre prompt_crossing.end.Reads.Post
+prompt-crossing-end-unique κs a x y ws vs pre h h′ = (h ∙ sym h′, refl)
 
 -- ---- clutch
 pub clutch-clutch-of-unique : Coincide 0 clutch.clutch_of.Kinds.ps clutch.clutch_of.Kinds.r clutch.clutch_of.Reads.Pre clutch.clutch_of.Reads.Post
@@ -448,6 +497,15 @@ boundary-ylhovesko-gears-unique κs a x y ws vs pre h h′ = (h .0 ∙ sym (h′
 
 pub boundary-ylhovesko-write-trace-unique : Coincide 2 boundary.ylhovesko_write_trace.Kinds.ps boundary.ylhovesko_write_trace.Kinds.r boundary.ylhovesko_write_trace.Reads.Pre boundary.ylhovesko_write_trace.Reads.Post
 boundary-ylhovesko-write-trace-unique κs a x y ws vs pre h h′ = (h .0 ∙ sym (h′ .0), ap (λ (l : List ℕ). (tt, (l, tt))) (h .1 ∙ sym (h′ .1)))
+
+pub boundary-ylhovesko-live-begin-unique : Coincide 0 boundary.ylhovesko_live_begin.Kinds.ps boundary.ylhovesko_live_begin.Kinds.r boundary.ylhovesko_live_begin.Reads.Pre boundary.ylhovesko_live_begin.Reads.Post
+boundary-ylhovesko-live-begin-unique κs a x y ws vs pre h h′ = (h ∙ sym h′, refl)
+
+pub boundary-ylhovesko-live-second-unique : Coincide 0 boundary.ylhovesko_live_second.Kinds.ps boundary.ylhovesko_live_second.Kinds.r boundary.ylhovesko_live_second.Reads.Pre boundary.ylhovesko_live_second.Reads.Post
+boundary-ylhovesko-live-second-unique κs a x y ws vs pre h h′ = (h ∙ sym h′, refl)
+
+pub boundary-ylhovesko-live-end-unique : Coincide 0 boundary.ylhovesko_live_end.Kinds.ps boundary.ylhovesko_live_end.Kinds.r boundary.ylhovesko_live_end.Reads.Pre boundary.ylhovesko_live_end.Reads.Post
+boundary-ylhovesko-live-end-unique κs a x y ws vs pre h h′ = (h ∙ sym h′, refl)
 
 pub boundary-ylhovesko-judge-pair-unique : Coincide 2 boundary.ylhovesko_judge_pair.Kinds.ps boundary.ylhovesko_judge_pair.Kinds.r boundary.ylhovesko_judge_pair.Reads.Pre boundary.ylhovesko_judge_pair.Reads.Post
 boundary-ylhovesko-judge-pair-unique κs a x y ws vs pre h h′ = (h ∙ sym h′, refl)
