@@ -2,6 +2,7 @@
 ghost use Prim.Native.Nat.{_<_, _≤_};
 use super::output;
 use super::output::figure;
+use super::prompting;
 use super::sheet::vehicle_in;
 use cases::number_at;
 use print::number;
@@ -18,13 +19,17 @@ fn put(trace: &[u8], n: [u64; 802], rows: &mut [u8; 3610]) {
     print::end_line();
 }
 
-// The row of a file of the folder data, from place 21 on. What cannot be read has no bytes.
-pub fn put_row(n: [u64; 802], path: &[u8], rows: &mut [u8; 3610]) {
+// The row of a file of the folder data, from place 21 on; where it is asked for live, second by second. What cannot be read has no bytes.
+pub fn put_row(n: [u64; 802], path: &[u8], rows: &mut [u8; 3610], live: bool) {
     let mut trace = io::buffer();
     let fd = os::open_read(path);
     let got = io::read_full(fd, &mut trace);
     libc::close(fd);
-    put(&trace[..got], n, rows);
+    if live {
+        prompting::row(&trace, got / 4, n, rows, size_at(n, 21));
+    } else {
+        put(&trace[..got], n, rows);
+    }
 }
 
 fn one_if(holds: bool) -> u64

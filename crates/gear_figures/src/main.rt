@@ -1,7 +1,8 @@
 // The gear sheet as the compiled code gives it, for the cases of the file `stdin`: the examples of Annex 13 and of 004's Appendix 8, the rows of the cycle's parts, traces too close
-// to call, pairs of traces, the rows of the corrections, the versions of a trace and what is written.
+// to call, pairs of traces, the rows of the corrections, the versions of a trace, what is written, and what is given live.
 mod files;
 mod output;
+mod prompting;
 mod seconds;
 mod sheet;
 mod shifts;
@@ -17,9 +18,11 @@ fn show(n: [u64; 802], said: &[u8], rows: &mut [u8; 3610]) {
         1 => shifts::shift_speed(n),
         2 => shifts::clutch_speed(n),
         3 => seconds::pair(n),
-        4 => files::put_row(n, said, rows),
+        4 => files::put_row(n, said, rows, false),
         5 => files::tally(n, rows),
         7 => writing::trace(n),
+        8 => prompting::seconds(n),
+        9 => files::put_row(n, said, rows, true),
         _ => files::sum(rows),
     }
 }

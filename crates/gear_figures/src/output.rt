@@ -1,9 +1,9 @@
 // What is printed of an outcome and of a row.
 ghost use Prim.Native.Nat.{_≤_};
 ghost use lib.ListN.{length};
+use outcome::Outcome;
 use print::text;
 use refusal::Judged;
-use refusal::Refusal;
 
 // A number as `print::filled` takes it.
 pub fn figure(n: u64) -> i64 {
@@ -14,17 +14,20 @@ fn accepted() {
     text(b" accepted");
 }
 
-fn refused(refusal: Refusal) {
-    let place = refusal::place_of(refusal);
-    let number = refusal::number_of(refusal);
-    print::filled(b" refused # at #", &[number as i64, place.at as i64]);
+fn refused(number: u32, at: u32) {
+    print::filled(b" refused # at #", &[number as i64, at as i64]);
+}
+
+pub fn told(o: Outcome) {
+    if o.number == 0 {
+        accepted();
+    } else {
+        refused(o.number, o.at);
+    }
 }
 
 pub fn outcome(judged: Judged) {
-    match judged {
-        Judged::Accepted => accepted(),
-        Judged::Refused(refusal) => refused(refusal),
-    }
+    told(outcome::outcome_of(judged));
 }
 
 fn wide(byte: u8) -> u64
@@ -59,7 +62,7 @@ fn buffer(row: [u8; 24]) {
     print::filled(b", buffer # #", &[row_sum([165; 24]), row_sum(row)]);
 }
 
-fn second(gear: u8, clutch: u8) {
+pub fn second(gear: u8, clutch: u8) {
     print::number(wide(gear));
     if clutch == 1 {
         text(b" out");

@@ -5,7 +5,7 @@ use super::output;
 use super::sheet::vehicle_in;
 use cases::number_at;
 
-fn count_in(n: [u64; 802], block: u32) -> usize
+pub fn count_in(n: [u64; 802], block: u32) -> usize
     ensures { λ r. ⌜ r ≤ 10 ⌝ }
 {
     (number_at(n, block, 1) % 11) as usize
@@ -56,7 +56,7 @@ fn byte_at(n: [u64; 802], block: u32, i: u32) -> u8 {
     }
 }
 
-fn trace_in(n: [u64; 802], block: u32) -> [u8; 48] {
+pub fn trace_in(n: [u64; 802], block: u32) -> [u8; 48] {
     let mut trace = [0; 48];
     let mut i: usize = 0;
     while i < 48 {
