@@ -31,7 +31,7 @@ extern "C" {
  *
  *     if (ylhovesko_version() != YLHOVESKO_VERSION) return EXIT_FAILURE;
  */
-#define YLHOVESKO_VERSION 10u
+#define YLHOVESKO_VERSION 11u
 
 /* The version of the archive. */
 uint32_t ylhovesko_version(void);
@@ -153,6 +153,66 @@ typedef struct {
 
 /* Refusals 5 to 7. */
 ylhovesko_tenths ylhovesko_shift_tenths(ylhovesko_vehicle vehicle);
+
+/*
+ * The live engine: the gears of a trace while it is still arriving, for the rider's display. It is begun with the version that the trace is named with and
+ * the vehicle; then it takes one second at a time, and gives the gear and clutch of a second at the call of the fifth after it; at the end it gives the rest.
+ * What it gives for all seconds of a trace is the row of ylhovesko_gears, byte for byte.
+ *
+ * The state is the caller's, 152 bytes that are handed over and handed back by value: nothing is kept in between, so any number of riders can be
+ * prompted at once, and an older state can be gone on from again. Its bytes are not for reading or writing, but for those of outcome; every bit pattern is
+ * answered, none does anything undefined, and one of zeros is refused at its first second (4). outcome.number is 0 while it runs; once it is a refusal it
+ * stays, every further call answers it again, and nothing more is given. A call takes at most 1 KiB of stack, with its arguments and without the loader's
+ * share in a first call.
+ */
+typedef struct {
+    ylhovesko_outcome outcome;
+    uint32_t kept[34];
+} ylhovesko_live;
+
+/* A second as the house file has it, whose four bytes it is. */
+typedef struct {
+    uint16_t speed; /* 0.1 km/h, 0 to 2,000 */
+    uint8_t flags;
+    uint8_t fourth; /* 0 */
+} ylhovesko_second;
+
+/* What a call gives: two bytes for each of count seconds, the gear and the clutch as in a row, and zeros behind them. */
+typedef struct {
+    uint32_t count; /* 0 or 1 at a second, up to 5 at the end */
+    uint8_t bytes[10];
+} ylhovesko_given;
+
+/* Refusals 1, for a version that is not 1 or 2, and 5 to 7. */
+ylhovesko_live ylhovesko_live_begin(uint32_t version, ylhovesko_vehicle vehicle);
+
+/* The state with the second, and what is given. */
+typedef struct {
+    ylhovesko_live state;
+    ylhovesko_given given;
+} ylhovesko_live_answer;
+
+/*
+ * Refusals 2, at second 2,001 whatever it holds, 4, 20 and 9, in this order. So the earliest faulty second is named, where ylhovesko_gears names the first
+ * with the lowest number. What was given before a refusal is the start of the row of every trace that begins with the seconds before the refused one.
+ *
+ *     ylhovesko_live live = ylhovesko_live_begin(2, vehicle);
+ *     while (live.outcome.number == 0 && next_second(&second)) {
+ *         ylhovesko_live_answer a = ylhovesko_live_second(live, second);
+ *         live = a.state;
+ *         if (a.given.count != 0) show(a.given.bytes[0], a.given.bytes[1]);
+ *     }
+ */
+ylhovesko_live_answer ylhovesko_live_second(ylhovesko_live state, ylhovesko_second second);
+
+/* What is left at the end. That is the last call of a trace, and hands no state back. */
+typedef struct {
+    ylhovesko_outcome outcome;
+    ylhovesko_given given;
+} ylhovesko_live_last;
+
+/* Refusal 2, where no second was received. */
+ylhovesko_live_last ylhovesko_live_end(ylhovesko_live state);
 
 /* The most seconds of a trace, and its length in bytes with that many seconds. */
 #define YLHOVESKO_TRACE_MOST 2000u

@@ -800,6 +800,236 @@ static void versions(ylhovesko_vehicle vehicle)
     pairs_of_versions();
 }
 
+/* the second at this place of a trace, from 0 */
+static ylhovesko_second second_of(const uint8_t *trace, size_t at)
+{
+    const uint8_t *bytes = trace + YLHOVESKO_TRACE_BYTES(at);
+
+    return (ylhovesko_second){(uint16_t)(bytes[0] + 256 * bytes[1]), bytes[2], bytes[3]};
+}
+
+/* for the header's example: six seconds, which are those of normal twice, and what is shown of them */
+static size_t heard, shown;
+
+static int next_second(ylhovesko_second *second)
+{
+    if (heard == 6)
+        return 0;
+    *second = second_of(normal, heard % 3);
+    heard++;
+    return 1;
+}
+
+static void show(uint8_t gear, uint8_t clutch)
+{
+    expect("the gear of the first second", gear == 1 && clutch == 1);
+    shown++;
+}
+
+/* the header's example as it is printed there */
+static void live_as_printed(ylhovesko_vehicle vehicle)
+{
+    ylhovesko_second second;
+
+    ylhovesko_live live = ylhovesko_live_begin(2, vehicle);
+    while (live.outcome.number == 0 && next_second(&second)) {
+        ylhovesko_live_answer a = ylhovesko_live_second(live, second);
+        live = a.state;
+        if (a.given.count != 0) show(a.given.bytes[0], a.given.bytes[1]);
+    }
+    expect("six seconds heard, one shown", is(live.outcome, 0, 0) && heard == 6 && shown == 1);
+}
+
+/* whether so many seconds are given, and zeros behind them */
+static int gives(ylhovesko_given given, uint32_t count)
+{
+    size_t k;
+
+    for (k = 2 * (size_t)given.count; k < sizeof given.bytes; k++)
+        if (given.bytes[k] != 0)
+            return 0;
+    return given.count == count;
+}
+
+/* noise that is the same in every run */
+static uint32_t noise(void)
+{
+    static uint32_t last = 1;
+
+    last = last * 1664525u + 1013904223u;
+    return last >> 8;
+}
+
+/* a trace of this version: stops in runs of ten, which are in neutral before their last five, then thirty seconds of noise, most of them slow */
+static void fill_trace(uint8_t *trace, uint8_t version, uint16_t count, uint8_t most_flags)
+{
+    const uint8_t head[] = {'W', 'T', 'R', 0, version, 0, (uint8_t)count, (uint8_t)(count >> 8)};
+    uint16_t k;
+
+    memcpy(trace, head, sizeof head);
+    for (k = 0; k < count; k++) {
+        const uint16_t speed = (uint16_t)(noise() % (k % 3 == 0 ? 2001 : 400));
+        const uint8_t second[] = {(uint8_t)speed, (uint8_t)(speed >> 8), (uint8_t)(noise() % (most_flags + 1u)), 0};
+
+        memcpy(trace + YLHOVESKO_TRACE_BYTES(k), second, sizeof second);
+        /* its marks stay */
+        if (k / 10 % 4 == 0)
+            trace[YLHOVESKO_TRACE_BYTES(k) + 2] &= 12;
+    }
+}
+
+/* hands over the seconds of a trace from this one on, and ends it; what is given has to be that part of the row */
+static void live_on(ylhovesko_live live, const uint8_t *trace, size_t from, size_t count, const uint8_t *row)
+{
+    const uint32_t left = count < 5 ? (uint32_t)count : 5;
+    ylhovesko_live_last last;
+    size_t k;
+
+    for (k = from; k < count; k++) {
+        const ylhovesko_live_answer a = ylhovesko_live_second(live, second_of(trace, k));
+
+        expect("a second that is heard", is(a.state.outcome, 0, 0) && gives(a.given, k < 5 ? 0 : 1));
+        expect("the fifth second before it", k < 5 || memcmp(a.given.bytes, row + 2 * (k - 5), 2) == 0);
+        live = a.state;
+    }
+    last = ylhovesko_live_end(live);
+    expect("the end", is(last.outcome, 0, 0) && gives(last.given, left));
+    expect("the seconds that are left", memcmp(last.given.bytes, row + 2 * (count - left), 2 * left) == 0);
+}
+
+/* a trace has the row of ylhovesko_gears, and so it has where an older state is gone on from, with another rider's seconds in between */
+static void live_row(ylhovesko_vehicle vehicle, uint8_t version, uint16_t count, uint8_t most_flags)
+{
+    static uint8_t trace[YLHOVESKO_TRACE_BYTES(YLHOVESKO_TRACE_MOST)], row[2 * YLHOVESKO_TRACE_MOST];
+    const ylhovesko_live begun = ylhovesko_live_begin(version, vehicle);
+    ylhovesko_live live = begun, other = begun;
+    size_t k;
+
+    fill_trace(trace, version, count, most_flags);
+    expect("the row of a live trace", is(ylhovesko_gears(trace, YLHOVESKO_TRACE_BYTES(count), vehicle, row, sizeof row, 0), 0, 0));
+    expect("a live trace begun", is(begun.outcome, 0, 0));
+    live_on(begun, trace, 0, count, row);
+    for (k = 0; k < count && k < 40; k++) {
+        live_on(live, trace, k, count, row);
+        other = ylhovesko_live_second(other, second_of(trace, count - 1)).state;
+        live = ylhovesko_live_second(live, second_of(trace, k)).state;
+    }
+    live_on(begun, trace, 0, count, row);
+}
+
+/* whether a state has this refusal, and every call with it answers that again and gives nothing */
+static int live_refuses(ylhovesko_live live, uint32_t number, uint32_t at)
+{
+    const ylhovesko_second sound = {0, 0, 0}, faulty = {2001, 16, 1};
+    const ylhovesko_live_answer a = ylhovesko_live_second(live, sound), b = ylhovesko_live_second(a.state, faulty);
+    const ylhovesko_live_last last = ylhovesko_live_end(live), again = ylhovesko_live_end(b.state);
+
+    return is(live.outcome, number, at) && is(a.state.outcome, number, at) && is(b.state.outcome, number, at) && is(last.outcome, number, at)
+        && is(again.outcome, number, at) && gives(a.given, 0) && gives(b.given, 0) && gives(last.given, 0) && gives(again.given, 0);
+}
+
+/* whether a second has this refusal after so many stops, and gives nothing */
+static int live_refused(uint32_t version, ylhovesko_vehicle vehicle, uint32_t stops, ylhovesko_second second, uint32_t number, uint32_t at)
+{
+    const ylhovesko_second stop = {0, 0, 0};
+    ylhovesko_live live = ylhovesko_live_begin(version, vehicle);
+    ylhovesko_live_answer a;
+
+    while (stops-- > 0)
+        live = ylhovesko_live_second(live, stop).state;
+    a = ylhovesko_live_second(live, second);
+    return is(live.outcome, 0, 0) && gives(a.given, 0) && live_refuses(a.state, number, at);
+}
+
+/* 1, then 5 to 7, before the first second */
+static void live_begins(ylhovesko_vehicle vehicle)
+{
+    const uint32_t no_versions[] = {0, 3, 257, 65537, UINT32_MAX};
+    ylhovesko_vehicle third_set = vehicle, rising = vehicle, strong = vehicle;
+    size_t k;
+
+    third_set.rule_set = 3;
+    rising.ndv[2] = 12000;
+    strong.power = 3000;
+    for (k = 0; k < sizeof no_versions / sizeof no_versions[0]; k++) {
+        expect("no such version", live_refuses(ylhovesko_live_begin(no_versions[k], vehicle), 1, 0));
+        expect("the version before the vehicle", live_refuses(ylhovesko_live_begin(no_versions[k], third_set), 1, 0));
+    }
+    expect("no third rule set live", live_refuses(ylhovesko_live_begin(1, third_set), 5, 14));
+    expect("ndv live", live_refuses(ylhovesko_live_begin(2, rising), 6, 3));
+    expect("power live", live_refuses(ylhovesko_live_begin(2, strong), 7, 0));
+    expect("no second received", is(ylhovesko_live_end(ylhovesko_live_begin(2, vehicle)).outcome, 2, 0));
+}
+
+/* 4, 20 and 9 in this order on one second, with its place; and 2 on second 2,001 before all of them */
+static void live_faults(ylhovesko_vehicle vehicle)
+{
+    /* 123.7 km/h in acceleration is too close to the upshift 2 to 3 */
+    const ylhovesko_vehicle close = {1612, 428, 10540, 300, 4, {3833, 2833, 2733, 2633, 0, 0, 0, 0}, 1};
+    ylhovesko_vehicle close_by_set_2 = close;
+    const ylhovesko_second fast = {2001, 1, 0}, no_flags = {0, 16, 0}, fourth = {0, 0, 1}, marked = {80, 5, 0}, sound = {80, 1, 0};
+    const ylhovesko_second too_close = {1237, 1, 0}, marked_too_close = {1237, 9, 0}, all = {1237, 9, 1};
+
+    close_by_set_2.rule_set = 2;
+    expect("a speed live", live_refused(2, vehicle, 0, fast, 4, 1) && live_refused(1, vehicle, 7, fast, 4, 8));
+    expect("flags live", live_refused(2, vehicle, 1, no_flags, 4, 2) && live_refused(1, vehicle, 1, no_flags, 4, 2));
+    expect("a fourth byte live", live_refused(2, vehicle, 1999, fourth, 4, 2000));
+    expect("a mark in version 2 live", live_refused(2, vehicle, 6, marked, 4, 7));
+    expect("a mark live, under rule set 2", live_refused(1, close_by_set_2, 6, marked, 20, 7));
+    expect("too close live", live_refused(2, close, 6, too_close, 9, 7) && live_refused(1, close, 6, marked_too_close, 9, 7));
+    expect("a mark before too close", live_refused(1, close_by_set_2, 6, marked_too_close, 20, 7));
+    expect("a fourth byte before both", live_refused(1, close_by_set_2, 6, all, 4, 7));
+    expect("second 2,001", live_refused(2, vehicle, 2000, sound, 2, 0));
+    expect("second 2,001 before its faults", live_refused(1, close_by_set_2, 2000, all, 2, 0));
+}
+
+/* states that no call has answered: of zeros, and of noise, which may say that it was refused */
+static void live_states(void)
+{
+    const ylhovesko_live zeros = {.outcome = {0, 0, 0, 0}};
+    const ylhovesko_second stop = {0, 0, 0};
+    int turn;
+    size_t k;
+
+    expect("zeros", live_refuses(ylhovesko_live_second(zeros, stop).state, 4, 1) && is(ylhovesko_live_end(zeros).outcome, 2, 0));
+    for (turn = 0; turn < 100000; turn++) {
+        const ylhovesko_second second = {(uint16_t)noise(), (uint8_t)noise(), (uint8_t)(noise() % 2)};
+        ylhovesko_live live = zeros;
+        ylhovesko_live_answer a;
+        ylhovesko_live_last last;
+
+        for (k = 0; k < sizeof live.kept / sizeof live.kept[0]; k++)
+            live.kept[k] = turn % 2 == 0 ? noise() : noise() % 2001;
+        if (turn % 3 == 0)
+            live.outcome = (ylhovesko_outcome){noise(), noise(), noise(), noise()};
+        a = ylhovesko_live_second(live, second);
+        last = ylhovesko_live_end(a.state);
+        expect("a second after noise", gives(a.given, a.given.count) && a.given.count <= (a.state.outcome.number == 0));
+        expect("an end after noise", gives(last.given, last.given.count) && last.given.count <= (last.outcome.number == 0 ? 5 : 0));
+        expect("a refusal of noise that stays", live.outcome.number == 0 || memcmp(&last.outcome, &live.outcome, sizeof last.outcome) == 0);
+    }
+}
+
+static void live(ylhovesko_vehicle vehicle)
+{
+    ylhovesko_vehicle by_set_2 = vehicle;
+    uint16_t count;
+
+    by_set_2.rule_set = 2;
+    live_as_printed(vehicle);
+    for (count = 1; count <= 100; count++) {
+        live_row(vehicle, 1, count, 15);
+        live_row(vehicle, 2, count, 3);
+        live_row(by_set_2, 1, count, 3);
+        live_row(by_set_2, 2, count, 3);
+    }
+    live_row(vehicle, 1, YLHOVESKO_TRACE_MOST, 15);
+    live_row(by_set_2, 2, YLHOVESKO_TRACE_MOST, 3);
+    live_begins(vehicle);
+    live_faults(vehicle);
+    live_states();
+}
+
 int main(void)
 {
     const ylhovesko_vehicle vehicle = {300, 200, 8000, 1200, 4, {20000, 12000, 9000, 7000, 0, 0, 0, 0}, 1};
@@ -811,6 +1041,7 @@ int main(void)
     rows(vehicle);
     pairs();
     versions(vehicle);
+    live(vehicle);
     shift_speeds(vehicle);
     whole_tenths(vehicle);
     clutch(vehicle);

@@ -5,6 +5,9 @@
  *   'v'                                 ->  version (32 bits)
  *   'g' trace, vehicle, buffer, start   ->  outcome, the buffer's bytes
  *   'n' seconds, buffer                 ->  outcome, the buffer's bytes
+ *   'b' version (32 bits), vehicle      ->  state of the live engine
+ *   'h' state, second                   ->  state, what is given
+ *   'e' state                           ->  outcome, what is given
  *   's' vehicle                         ->  shift speeds
  *   'w' vehicle                         ->  shift speeds in whole tenths
  *   'p' normal, reduced                 ->  outcome
@@ -80,6 +83,41 @@ static int write_trace(void)
         return 0;
     o = ylhovesko_write_trace(numbers, (size_t)length, one.bytes, (size_t)one.length);
     return give(&o, sizeof o) && give(one.bytes, (size_t)one.length);
+}
+
+static int live_begin(void)
+{
+    uint32_t version;
+    ylhovesko_vehicle vehicle;
+    ylhovesko_live live;
+
+    if (!take(&version, sizeof version) || !take(&vehicle, sizeof vehicle))
+        return 0;
+    live = ylhovesko_live_begin(version, vehicle);
+    return give(&live, sizeof live);
+}
+
+static int live_second(void)
+{
+    ylhovesko_live state;
+    ylhovesko_second second;
+    ylhovesko_live_answer a;
+
+    if (!take(&state, sizeof state) || !take(&second, sizeof second))
+        return 0;
+    a = ylhovesko_live_second(state, second);
+    return give(&a, sizeof a);
+}
+
+static int live_end(void)
+{
+    ylhovesko_live state;
+    ylhovesko_live_last l;
+
+    if (!take(&state, sizeof state))
+        return 0;
+    l = ylhovesko_live_end(state);
+    return give(&l, sizeof l);
 }
 
 static int shift_speeds(void)
@@ -220,6 +258,12 @@ static int answer(int call)
         return gears();
     case 'n':
         return write_trace();
+    case 'b':
+        return live_begin();
+    case 'h':
+        return live_second();
+    case 'e':
+        return live_end();
     case 's':
         return shift_speeds();
     case 'w':
