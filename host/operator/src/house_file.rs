@@ -24,6 +24,32 @@ pub const MARKED_HEADING: &str = "second,speed_tenths,phase,no_gearshift,no_firs
 /// As the table names them, in the order of the trace's flags.
 const PHASES: [&str; 4] = ["stop", "acc", "cruise", "dec"];
 
+/// What the heading of a table says of its lines.
+pub struct Columns {
+    has_marks: bool,
+}
+
+impl Columns {
+    /// By the first line of a table; or what is said of another line.
+    pub fn of(heading: &str) -> Result<Columns, String> {
+        match heading.trim_start_matches('\u{feff}').trim() {
+            HEADING => Ok(Columns { has_marks: false }),
+            MARKED_HEADING => Ok(Columns { has_marks: true }),
+            _ => Err(format!("the first line is neither '{HEADING}' nor '{MARKED_HEADING}'")),
+        }
+    }
+
+    /// The second of a line, where it is that of the second that is due; or what is said of a line of another form.
+    pub fn second(&self, line: &str, due: usize) -> Result<Second, String> {
+        let expected = || {
+            let form = if self.has_marks { "SPEED,PHASE,MARK,MARK" } else { "SPEED,PHASE" };
+            let (at, found) = (line_of(due), quoted(line));
+            format!("line {at}: {found}, expected is '{due},{form}' with phase stop, acc, cruise or dec")
+        };
+        second_of(line, due, self.has_marks).ok_or_else(expected)
+    }
+}
+
 fn mark(word: &str) -> Option<bool> {
     match word {
         "0" => Some(false),
@@ -32,8 +58,12 @@ fn mark(word: &str) -> Option<bool> {
     }
 }
 
-/// A second, where the line is that of the second that is due; with the marks where the table has them.
-fn second_of(line: &str, due: u16, has_marks: bool) -> Option<Second> {
+/// A second, where the line is that of the second that is due; with the marks where the table has them. A line that is too long may have been cut, and
+/// would be another.
+fn second_of(line: &str, due: usize, has_marks: bool) -> Option<Second> {
+    if line.len() as u64 > LONGEST {
+        return None;
+    }
     let fields: Vec<&str> = line.trim().split(',').collect();
     let [second, speed, phase, marks @ ..] = fields.as_slice() else { return None };
     if second.parse() != Ok(due) {
@@ -53,25 +83,11 @@ fn line_of(second: usize) -> usize {
     second + 1
 }
 
+/// The seconds of a table that is no longer than [`LONGEST`]: they are no more than a house file can count.
 fn seconds_of(table: &str) -> Result<Vec<Second>, String> {
-    let mut lines = table.trim_start_matches('\u{feff}').lines();
-    let has_marks = match lines.next().map(str::trim) {
-        Some(HEADING) => false,
-        Some(MARKED_HEADING) => true,
-        _ => return Err(format!("the first line is neither '{HEADING}' nor '{MARKED_HEADING}'")),
-    };
-    let mut seconds = Vec::new();
-    let mut count: u16 = 0;
-    for line in lines {
-        count = count.checked_add(1).ok_or("more seconds than a house file can count")?;
-        let expected = || {
-            let form = if has_marks { "SPEED,PHASE,MARK,MARK" } else { "SPEED,PHASE" };
-            let (at, found) = (line_of(count.into()), quoted(line));
-            format!("line {at}: {found}, expected is '{count},{form}' with phase stop, acc, cruise or dec")
-        };
-        seconds.push(second_of(line, count, has_marks).ok_or_else(expected)?);
-    }
-    Ok(seconds)
+    let mut lines = table.lines();
+    let columns = Columns::of(lines.next().unwrap_or_default())?;
+    lines.zip(1..).map(|(line, due)| columns.second(line, due)).collect()
 }
 
 /// The seconds of a table in a file.
@@ -98,9 +114,14 @@ fn refused(table: &Path, seconds: &[Second], version: Version, refusal: Refusal)
     let found = trace::found_in_making(seconds, version, refusal);
     let told = Told::refused(format!("{}: {}\n", table.display(), line(refusal, &found)));
     let at = refusal.at as usize;
-    let marks = at.checked_sub(1).and_then(|index| seconds.get(index)?.marks()).filter(|_| version == Version::Two);
-    let note = marks.map(|marks| format!("line {}: {marks}; --marks makes a trace of version 1, which keeps the marks", line_of(at)));
+    let note = at.checked_sub(1).and_then(|index| mark_note(*seconds.get(index)?, at, version));
     told.noting(&note.map_or(String::new(), |note| lines(table, &[note])))
+}
+
+/// How the marks of the second at this place are kept, where the trace is of version 2, which has none.
+pub fn mark_note(second: Second, at: usize, version: Version) -> Option<String> {
+    let marks = second.marks().filter(|_| version == Version::Two)?;
+    Some(format!("line {}: {marks}; with --marks the trace is of version 1, which keeps the marks", line_of(at)))
 }
 
 /// `part1_unmarked.wtr: a trace of 600 seconds, version 2`.
@@ -113,7 +134,7 @@ pub fn house_file(given: &[OsString]) -> Result<Told, Failure> {
     let arguments = Arguments::of(given, &[], &["--marks"])?;
     let [table, file] = arguments.exactly("a cycle table and the trace to be made")?;
     files::apart(&table, &file)?;
-    let version = if arguments.has("--marks") { Version::One } else { Version::Two };
+    let version = Version::of_table(arguments.has("--marks"));
     let trace = match trace_of(&table, version)? {
         Ok(trace) => trace,
         Err(refused) => return Ok(refused),

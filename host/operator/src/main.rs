@@ -14,6 +14,7 @@ mod gears;
 mod help;
 mod house_file;
 mod kind;
+mod live;
 mod lot;
 mod machine;
 mod numbers;
@@ -110,11 +111,27 @@ impl Told {
     }
 }
 
+/// Says on the error stream what there is to note. There is no one left to tell where it is closed.
+pub fn note(words: &str) {
+    let _ = io::stderr().write_all(words.as_bytes());
+}
+
+/// Writes a text at once, so that a display can follow; and whether there is still a reader: one that has seen enough is no fault.
+pub fn print(text: &str) -> Result<bool, Failure> {
+    let mut out = io::stdout();
+    match out.write_all(text.as_bytes()).and_then(|()| out.flush()) {
+        Ok(()) => Ok(true),
+        Err(error) if error.kind() == ErrorKind::BrokenPipe => Ok(false),
+        Err(error) => Err(Failure(format!("the output cannot be written: {error}\n"))),
+    }
+}
+
 type Command = fn(&[OsString]) -> Result<Told, Failure>;
 
 /// Each command with its help.
-const COMMANDS: [(&str, &str, Command); 11] = [
+const COMMANDS: [(&str, &str, Command); 12] = [
     ("gears", help::GEARS, gears::gears),
+    ("live", help::LIVE, live::live),
     ("speeds", help::SPEEDS, speeds::speeds),
     ("result", help::RESULT, commands::result),
     ("test", help::TEST, whole_test::test),
@@ -164,15 +181,12 @@ fn answer(given: &[OsString]) -> Result<Told, Failure> {
 fn main() -> ExitCode {
     let given: Vec<OsString> = std::env::args_os().skip(1).collect();
     let told = answer(&given).unwrap_or_else(Told::failed);
-    // There is no one left to tell where the error stream is closed.
-    let _ = io::stderr().write_all(told.errors.as_bytes());
-    let mut out = io::stdout();
-    match out.write_all(told.text.as_bytes()).and_then(|()| out.flush()) {
-        // A reader that has seen enough is no fault.
-        Err(error) if error.kind() != ErrorKind::BrokenPipe => {
-            let _ = writeln!(io::stderr(), "the output cannot be written: {error}");
+    note(&told.errors);
+    match print(&told.text) {
+        Ok(_) => ExitCode::from(told.code),
+        Err(Failure(words)) => {
+            note(&words);
             ExitCode::from(UNUSABLE)
         }
-        _ => ExitCode::from(told.code),
     }
 }

@@ -42,12 +42,25 @@ pub fn rows_of(traces: &[&[u8]], vehicle: Vehicle) -> Result<Vec<Row>, (usize, R
 
 fn second_of((number, (second, pair)): (usize, (trace::Second, &[u8]))) -> Second {
     let phase = ["stop", "acceleration", "cruise", "deceleration"][second.phase()];
-    Second { number, speed: second.speed, phase, gear: pair[0], clutch_out: pair[1] == 1 }
+    Second { number, speed: second.speed, phase, gear: pair[0], clutch_out: is_out(pair[1]) }
+}
+
+/// What the clutch byte of a second says.
+fn is_out(clutch: u8) -> bool {
+    clutch == 1
 }
 
 /// The parts of a test as one row, whose seconds count through.
 pub fn joined(rows: &[Row]) -> Row {
     (1..).zip(rows.iter().flatten()).map(|(number, second)| Second { number, ..*second }).collect()
+}
+
+fn gear_name(gear: u8) -> String {
+    if gear == 0 {
+        "neutral".to_string()
+    } else {
+        gear.to_string()
+    }
 }
 
 pub fn clutch(out: bool) -> &'static str {
@@ -66,18 +79,27 @@ pub fn table(row: &[Second]) -> String {
         let (first, last) = (run[0], run[run.len() - 1]);
         let lowest = run.iter().map(|second| second.speed).min().unwrap_or(0);
         let highest = run.iter().map(|second| second.speed).max().unwrap_or(0);
-        let gear = if first.gear == 0 { "neutral".to_string() } else { first.gear.to_string() };
         lines += &format!(
             "{:>6} {:>6}  {:<7}  {:<6} {:>10} {:>10}\n",
             first.number,
             last.number,
-            gear,
+            gear_name(first.gear),
             clutch(first.clutch_out),
             kilometres_an_hour(lowest),
             kilometres_an_hour(highest)
         );
     }
     lines
+}
+
+/// Over the lines of single seconds.
+pub fn second_heading() -> String {
+    format!("{:>6}  {:<7}  {}\n", "second", "gear", "clutch")
+}
+
+/// A line of a single second, of which the core gave the gear and the clutch.
+pub fn second_line(number: usize, [gear, clutch_byte]: [u8; 2]) -> String {
+    format!("{number:>6}  {:<7}  {}\n", gear_name(gear), clutch(is_out(clutch_byte)))
 }
 
 /// What a second's line of comma-separated values has.

@@ -6,7 +6,7 @@ use crate::refusals::Found;
 use std::ops::Range;
 use std::path::PathBuf;
 use ylhovesko::gear::{judge_trace, write_trace};
-use ylhovesko::Refusal;
+use ylhovesko::{live, Refusal};
 
 /// The mark and the zero byte after it.
 pub const MARK: [u8; 4] = [b'W', b'T', b'R', 0];
@@ -31,6 +31,15 @@ impl Version {
         [Version::One, Version::Two].into_iter().find(|version| version.number() == number(trace, VERSION))
     }
 
+    /// The one that is made or read of a table. Columns for marks do not ask for version 1.
+    pub fn of_table(marks_asked_for: bool) -> Version {
+        if marks_asked_for {
+            Version::One
+        } else {
+            Version::Two
+        }
+    }
+
     pub fn number(self) -> u16 {
         match self {
             Version::One => 1,
@@ -44,6 +53,11 @@ impl Version {
             Version::One => 15,
             Version::Two => 3,
         }
+    }
+
+    /// What may stand in a second.
+    fn range(self) -> String {
+        format!("0 to 2,000 in 0.1 km/h, 0 to {}, 0", self.largest_flags())
     }
 }
 
@@ -67,6 +81,12 @@ impl Second {
     pub fn of(speed: u16, phase: usize, no_shift: bool, no_first: bool) -> Second {
         let flags = (phase as u8 & 3) | u8::from(no_shift) << 2 | u8::from(no_first) << 3;
         Second { speed, flags, fourth: 0 }
+    }
+
+    /// As the live engine takes it.
+    pub fn handed_over(self) -> live::Second {
+        let Second { speed, flags, fourth } = self;
+        live::Second { speed, flags, fourth }
     }
 
     /// 0 stop, 1 acceleration, 2 cruise, 3 deceleration.
@@ -93,13 +113,16 @@ impl Second {
     fn told(self, version: Version) -> String {
         let Second { speed, flags, fourth } = self;
         let found = format!("speed {}, flags {flags}, fourth byte {fourth}", grouped(speed.into()));
-        let told = format!("{found}; 0 to 2,000 in 0.1 km/h, 0 to {}, 0", version.largest_flags());
+        let told = format!("{found}; {}", version.range());
         match self.marks() {
             Some(marks) if version == Version::Two => format!("{told}; it is marked {marks}, and version 2 has no marks"),
             _ => told,
         }
     }
 }
+
+/// What the live engine gets where no second could be read: no version takes it.
+pub const NO_SECOND: live::Second = live::Second { speed: u16::MAX, flags: u8::MAX, fourth: u8::MAX };
 
 pub fn seconds(trace: &[u8]) -> Vec<Second> {
     let of = |bytes: &[u8]| Second { speed: u16::from_le_bytes([bytes[0], bytes[1]]), flags: bytes[2], fourth: bytes[3] };
@@ -185,21 +208,40 @@ pub fn found(trace: &[u8], refusal: Refusal) -> Found {
 
 /// The second that a refusal names, and what stands in it.
 fn found_in_second(seconds: &[Second], version: Version, refusal: Refusal) -> Found {
-    let Some(second) = (refusal.at as usize).checked_sub(1).and_then(|at| seconds.get(at).copied()) else { return Found::default() };
-    let value = match refusal.number {
-        4 => second.told(version),
-        9 => format!("{} km/h", kilometres_an_hour(second.speed)),
-        20 => second.marks().unwrap_or_default(),
+    let named = (refusal.at as usize).checked_sub(1).and_then(|at| seconds.get(at).copied());
+    named.map_or(Found::default(), |second| found_at(Some(second), version, refusal))
+}
+
+/// What stands in the second that a refusal names; there is none where it could not be read.
+fn found_at(second: Option<Second>, version: Version, refusal: Refusal) -> Found {
+    let value = match (refusal.number, second) {
+        (4, None) => format!("no value; {}", version.range()),
+        (4, Some(second)) => second.told(version),
+        (9, Some(second)) => format!("{} km/h", kilometres_an_hour(second.speed)),
+        (20, Some(second)) => second.marks().unwrap_or_default(),
         _ => String::new(),
     };
     Found { place: format!("second {}", refusal.at), value }
 }
 
+/// A count that is refused.
+fn found_count(count: usize) -> Found {
+    Found { place: String::new(), value: grouped(count as i128) }
+}
+
 /// Where a refusal of seconds lies of which a trace of this version was to be made, and what stands there.
 pub fn found_in_making(seconds: &[Second], version: Version, refusal: Refusal) -> Found {
     match refusal.number {
-        2 => Found { place: String::new(), value: grouped(seconds.len() as i128) },
+        2 => found_count(seconds.len()),
         _ => found_in_second(seconds, version, refusal),
+    }
+}
+
+/// Where a refusal of the live engine lies and what stands there: it received so many seconds, and this one last.
+pub fn found_live(received: usize, last: Option<Second>, version: Version, refusal: Refusal) -> Found {
+    match refusal.number {
+        2 => found_count(received),
+        _ => found_at(last, version, refusal),
     }
 }
 

@@ -77,7 +77,7 @@ fn a_mark_is_not_left_out_of_a_house_file() {
             let [no_shift, no_first] = [flags & 4 != 0, flags & 8 != 0].map(u8::from);
             let found = format!("second 2: speed 70, flags {}, fourth byte 0; 0 to 2,000 in 0.1 km/h, 0 to 3, 0", at as u8 + flags);
             let words = format!("4 speed, flags or fourth byte wrong, {found}; it is marked {marks}, and version 2 has no marks");
-            let note = format!("TABLE: line 3: {marks}; --marks makes a trace of version 1, which keeps the marks\n");
+            let note = format!("TABLE: line 3: {marks}; with --marks the trace is of version 1, which keeps the marks\n");
             makes_none(&format!("marked_{at}_{flags}"), &format!("1,0,stop,0,0\n2,70,{phase},{no_shift},{no_first}\n"), &words, &note);
         }
     }
