@@ -5,11 +5,11 @@ use ylhovesko::Refusal;
 
 use crate::{at, check, nowhere};
 
-const MOST_SECONDS: usize = 2000;
+pub(crate) const MOST_SECONDS: usize = 2000;
 
-const STOP: u8 = 0;
-const ACCELERATION: u8 = 1;
-const DECELERATION: u8 = 3;
+pub(crate) const STOP: u8 = 0;
+pub(crate) const ACCELERATION: u8 = 1;
+pub(crate) const DECELERATION: u8 = 3;
 
 type Second = [u8; 4];
 
@@ -64,7 +64,7 @@ fn judge_marks(v: &Vehicle, seconds: &[Second]) -> Result<(), Refusal> {
     marked.map_or(Ok(()), |k| Err(at(20, k as u32 + 1)))
 }
 
-fn judge_vehicle(v: &Vehicle) -> Result<(), Refusal> {
+pub(crate) fn judge_vehicle(v: &Vehicle) -> Result<(), Refusal> {
     check((1..=3000).contains(&v.power), at(5, 1))?;
     check((30..=1000).contains(&v.mass), at(5, 2))?;
     check((1000..=20_000).contains(&v.rated), at(5, 3))?;
@@ -102,15 +102,15 @@ fn exponential(v: &Vehicle) -> (i64, i64) {
 }
 
 /// What a speed times a ratio is held against, for the first upshift, for the others, and for the downshift 2 to 1, which is 0 under rule set 1.
-struct Shift<'a> {
-    first: (i64, i64),
-    higher: (i64, i64),
-    to_first: u32,
-    ndv: &'a [u32],
+pub(crate) struct Shift<'a> {
+    pub(crate) first: (i64, i64),
+    pub(crate) higher: (i64, i64),
+    pub(crate) to_first: u32,
+    pub(crate) ndv: &'a [u32],
 }
 
 impl Shift<'_> {
-    fn of(v: &Vehicle) -> Shift<'_> {
+    pub(crate) fn of(v: &Vehicle) -> Shift<'_> {
         let ends = exponential(v);
         let span = i64::from(v.rated - v.idle);
         let side = |e: i64, tenth: i64| (5753 * e - tenth) * span + (10_000_i64 << 32) * i64::from(v.idle);
@@ -135,7 +135,7 @@ impl Shift<'_> {
     }
 
     /// The gear before corrections.
-    fn own(&self, second: Second) -> Option<u8> {
+    pub(crate) fn own(&self, second: Second) -> Option<u8> {
         match phase(second) {
             STOP => Some(0),
             ACCELERATION => Some(1 + self.above(self.ndv.len(), speed(second))?),
@@ -232,12 +232,12 @@ fn correction_6(seconds: &[Second], row: &mut [u8]) {
 }
 
 /// n + 0.03 (s - n) in 0.001 per minute.
-fn three_per_cent(v: &Vehicle) -> u32 {
+pub(crate) fn three_per_cent(v: &Vehicle) -> u32 {
     1000 * v.idle + 30 * (v.rated - v.idle)
 }
 
 /// The clutch of a second with the ratio of its final gear, by the engine speed that it must reach.
-fn clutch(second: Second, ndv: u32, least: u32) -> u8 {
+pub(crate) fn clutch(second: Second, ndv: u32, least: u32) -> u8 {
     u8::from(is_stop(second) || speed(second) < 100 || speed(second) * ndv < least)
 }
 

@@ -68,6 +68,7 @@ pub fn exponential(p: u32, m: u32) -> (i128, i128) {
 }
 
 /// The shift speeds of a vehicle: for each gear i from 1 on, ndv(i) and the two sides that 10 x speed x ndv(i) x 2^32 is held against.
+#[derive(Clone, Debug)]
 pub struct Speeds {
     pub ndv: Vec<i128>,
     pub lower: Vec<i128>,
@@ -139,7 +140,7 @@ impl Speeds {
 
 /// The gear before corrections of a second outside stop; rule set 2 has another in cruise and deceleration alone. Downshift i to i-1 is the upshift i-2 to
 /// i-1, so the ng-2 downshift speeds are the first ng-2 upshift speeds.
-fn own(v: &Vehicle, speeds: &Speeds, second: &Second) -> Option<u8> {
+pub(crate) fn own(v: &Vehicle, speeds: &Speeds, second: &Second) -> Option<u8> {
     let upshifts = speeds.ndv.len();
     match second.phase {
         Phase::Stop => Some(0),
@@ -286,7 +287,7 @@ pub fn three_per_cent(v: &Vehicle) -> u32 {
 
 /// "Outside stop, the clutch is out exactly below 10.0 km/h" (01), and "also out when engine speed in the final gear is below n + 0.03 (s - n) ... At
 /// equality it stays in. The 10 km/h rule remains" (02, M-100). At a stop it is out. The final gear of a second outside stop is 1 to ng.
-fn clutch(v: &Vehicle, second: &Second, gear: u8) -> u8 {
+pub(crate) fn clutch(v: &Vehicle, second: &Second, gear: u8) -> u8 {
     let slow_engine = || second.speed * v.ndv[usize::from(gear) - 1] < three_per_cent(v);
     u8::from(second.is_stop() || second.speed < 100 || slow_engine())
 }

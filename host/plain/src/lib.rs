@@ -10,6 +10,7 @@ pub mod exact;
 pub mod figure;
 pub mod fraction;
 pub mod gear;
+pub mod live;
 pub mod lot;
 pub mod preset;
 pub mod sums;

@@ -43,7 +43,7 @@ const NO_FIRST_GEAR: u8 = 8;
 
 /// The flags that a second may have in a version, if there is such a version: "trace version 2 has only the phase", and "version 1 is still read with its
 /// marks" (02, M-109). "The core itself refuses version 3" (02, M-112).
-fn flags_of(version: u16) -> Option<u8> {
+pub(crate) fn flags_of(version: u16) -> Option<u8> {
     match version {
         1 => Some(PHASE | NO_GEAR_SHIFT | NO_FIRST_GEAR),
         2 => Some(PHASE),
@@ -86,7 +86,7 @@ pub fn read(file: &[u8]) -> Result<Vec<Second>, Refusal> {
 }
 
 /// A second that has no other flags than these.
-fn second(bytes: &[u8], may_have: u8) -> Option<Second> {
+pub(crate) fn second(bytes: &[u8], may_have: u8) -> Option<Second> {
     let speed = u32::from(sixteen(bytes[0], bytes[1]));
     let flags = bytes[2];
     if speed > 2000 || flags & !may_have != 0 || bytes[3] != 0 {

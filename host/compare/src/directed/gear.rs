@@ -31,7 +31,7 @@ pub(super) const EIGHT: Vehicle = Vehicle {
 /// The four bytes of a second in short: the phase (s stop, a acceleration, c cruise, d deceleration); the gear that [`EIGHT`] has there before
 /// corrections, or @ and the speed in 0.1 km/h; = for "no gear-shift", ^ for "no 1. gear". 1 in cruise or deceleration is a standstill, which has gear 1 under
 /// rule set 2 alone.
-fn second(short: &str) -> [u8; 4] {
+pub(super) fn second(short: &str) -> [u8; 4] {
     let phase = "sacd".find(&short[..1]).unwrap() as u8;
     let digits: String = short.chars().filter(char::is_ascii_digit).collect();
     let number: u16 = digits.parse().unwrap_or(0);
@@ -80,7 +80,7 @@ pub(super) fn row(number: u32, at: u32) -> String {
 
 /// At a stop the clutch is out; else "exactly below 10.0 km/h" (01), and below n + 0.03 (s - n) in the final gear (02, M-100), which is 100 n + 3 (s - n) in
 /// 0.01 per minute.
-fn clutch(v: &Vehicle, second: &[u8], gear: u8) -> u8 {
+pub(super) fn clutch(v: &Vehicle, second: &[u8], gear: u8) -> u8 {
     let speed = u32::from(second[0]) + 256 * u32::from(second[1]);
     let below = |gear: u8| speed * v.ndv[usize::from(gear) - 1] < 10 * (100 * v.idle + 3 * (v.rated - v.idle));
     u8::from(second[2] & 3 == 0 || speed < 100 || below(gear))
@@ -368,7 +368,7 @@ fn close(cases: &mut Cases) {
 }
 
 /// The gear of each second before corrections, and the clutch below 10.0 km/h.
-fn phases(cases: &mut Cases) {
+pub(super) fn phases(cases: &mut Cases) {
     cases.row("a run of five stops", "s s s s s", "1 1 1 1 1");
     cases.row("a run of six stops", "s s s s s s", "0 1 1 1 1 1");
     cases.row("a run of seven stops between others", "a1 s s s s s s s a1", "1 0 0 1 1 1 1 1 1");
@@ -459,7 +459,7 @@ fn clutches_by_vehicle(cases: &mut Cases) {
 }
 
 /// The gear whose engine speed decides is the final one.
-fn clutches_after_corrections(cases: &mut Cases) {
+pub(super) fn clutches_after_corrections(cases: &mut Cases) {
     let rows = [
         ("correction 1 puts gear 1 for 2", "a@127 d@127", "1/in 1/in"),
         ("correction 1, not after a cruise", "c@127 d@127", "2/out 2/out"),
@@ -482,7 +482,7 @@ fn clutches_after_corrections(cases: &mut Cases) {
 }
 
 /// Corrections 1 to 6, and their order.
-fn corrections(cases: &mut Cases) {
+pub(super) fn corrections(cases: &mut Cases) {
     let rows = [
         ("1, the smaller gear", "a3 d5 d4 d2", "3 3 3 2"),
         ("1, the run's last gear", "a2 a3 d5 d5 d5 d4", "2 3 3 3 3 3"),

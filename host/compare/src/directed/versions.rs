@@ -231,7 +231,7 @@ const SAME_SECONDS: [Rows; 17] = [
     ("a2 d1^ d1", 2, "2 2 2", "2 2 2", "2 1 1"),
 ];
 
-fn same_seconds(cases: &mut Cases) {
+pub(super) fn same_seconds(cases: &mut Cases) {
     for (seconds, at, by_marks, by_set_1, by_set_2) in SAME_SECONDS {
         let marked = |version: u16, rule_set: u32| put(version, rule_set, lent(trace(seconds), EIGHT));
         cases.gears(&format!("rule set 1, version 1: {seconds} gives"), marked(1, 1), by_marks);
