@@ -14,6 +14,11 @@ pub mark-of : (b : Bool) → ltb 0 (markOf b) ≡ b
 mark-of true = refl
 mark-of false = refl
 
+-- of two tests, the second
+either-stays : (a b : Bool) (rest : Pending) → b ≡ true → cond a stays (cond b stays rest) ≡ stays
+either-stays true b rest e = refl
+either-stays false b rest e = rw e
+
 module _ (p : Pending) (flags gear : ℕ) where
   -- ---- whether it takes the gear
   pub over-none : p .count ≡ 0 → takesOver p flags gear ≡ false
@@ -53,12 +58,7 @@ module _ (p : Pending) (flags gear : ℕ) where
 
     pub after-former : stop former ≡ true → pendingAfter p former before flags gear ≡ stays
     unfolding pendingAfter
-    after-former e = go (stop flags)
-      where
-        go : (b : Bool) → cond b stays (cond (stop former) stays (cond (eqb gear before) (longer p flags)
-            (cond (takesOver p flags gear) stays (opened before flags)))) ≡ stays
-        go true = refl
-        go false = rw e
+    after-former e = either-stays (stop flags) (stop former) _ e
 
     module _ (drive : stop flags ≡ false) (moving : stop former ≡ false) where
       pub after-goes : gear ≡ before → pendingAfter p former before flags gear ≡ longer p flags
