@@ -42,7 +42,7 @@ ghost use Rattle.lot_crossing.specs.Lot.{lotOut};
 pub extern "C" fn ylhovesko_version() -> u32
     ensures { λ r. ⌜ r ≡ version ⌝ }
 {
-    11
+    12
 }
 
 // The gear sheet: refusals 1 to 9 and 20, or the row in the buffer from the start on.

@@ -1,86 +1,57 @@
--- What the printed table has: which masses have a setting, how large a setting is, and how near a mass is to its inertia. Each is one computed test of the
--- whole table. Assumes nothing.
-use mathlib.Core.Path.{_≡_, refl, sym}
-use mathlib.Core.Bool.{Bool, true, false, _&&_, false≢true}
-use Prim.Native.Nat.{ℕ, _+_, _-_, _*_, _/_, _≤_, _<_}
+-- What the rule gives: which masses have a setting, how large a setting is, how near a mass is to its inertia, and that nothing falls with the mass. Assumes nothing.
+use mathlib.Core.Path.{_≡_, refl, subst}
+use mathlib.Core.Bool.{Bool, true, false, cond}
+use Prim.Native.Nat.{ℕ, _+_, _*_, _≤_, _<_}
 use native.Mathlib.Omega.{arith}
-use lib.ListN.{getD}
-use lib.Dec.{leb, ltb}
-use borrow.Author.Tests.{leb-true, leb-false, ltb-true}
 use Rattle.refusal.specs.declared.Refusal.the-variants.{ReferenceMass}
-use Rattle.refusal.specs.Ranges.{within}
-use Rattle.refusal.proofs.Ranges.{both, range}
+use Rattle.refusal.proofs.Ranges.{range}
 use Rattle.setting.specs.declared.Setting.{Setting}
 use Rattle.setting.specs.declared.SettingAnswer.the-variants.{Set, Refused}
-use Rattle.setting.specs.Annex3.{row, annex3, above, upTo, belongs, settingAnswer}
-use Rattle.setting.specs.Setting.{Settled}
-use Rattle.setting.proofs.Answer.{IsSet}
-use Rattle.setting.proofs.Rows.{below, beyond, counted, found, tested}
+use Rattle.setting.specs.Annex3.{inertiaOf, rounded, ruled, hasSetting, settingAnswer}
+use Rattle.setting.specs.Setting.{NotBelow, Settled}
+use Rattle.setting.proofs.Answer.{refused-no-set, set-same}
 
--- ---- a mass by the number of rows before its own. A row that is none is for a list's end
-abbrev pub none : Setting
-none = row 0 0 0
-
+-- ---- which masses have a setting
 module _ (mass : ℕ) where
-  pub too-light : mass ≤ 950 → settingAnswer mass ≡ Refused ReferenceMass
+  pub has-setting : hasSetting mass ≡ true → settingAnswer mass ≡ Set (ruled (inertiaOf mass))
   unfolding settingAnswer
-  too-light h = below mass annex3 100 950 refl refl h
+  has-setting e = rw e
 
-  pub too-heavy : 5050 < mass → settingAnswer mass ≡ Refused ReferenceMass
+  pub no-setting : hasSetting mass ≡ false → settingAnswer mass ≡ Refused ReferenceMass
   unfolding settingAnswer
-  too-heavy h = beyond mass annex3 100 950 refl refl h
+  no-setting e = rw e
 
-  pub at-row : 950 < mass → mass ≤ 5050 → settingAnswer mass ≡ Set (getD annex3 ((mass - 951) / 100) none)
+  -- a setting is the rule's, of a mass that has one
+  pub is-ruled : {s : Setting} → settingAnswer mass ≡ Set s → (hasSetting mass ≡ true) × (ruled (inertiaOf mass) ≡ s)
   unfolding settingAnswer
-  at-row h k = counted mass annex3 100 950 none refl refl h k
+  is-ruled {s} e = go (hasSetting mass) refl e
+    where
+      go : (b : Bool) → hasSetting mass ≡ b → cond b (Set (ruled (inertiaOf mass))) (Refused ReferenceMass) ≡ Set s
+          → (hasSetting mass ≡ true) × (ruled (inertiaOf mass) ≡ s)
+      go true is e = (is, set-same e)
+      go false is e = absurd (refused-no-set e)
 
--- ---- a mass has a setting exactly from 95.1 to 505.0 kg
-abbrev pub inTable : ℕ → Bool
-inTable mass = within 951 5050 mass
-
-pub in-table : (mass : ℕ) → inTable mass ≡ true → IsSet (settingAnswer mass)
-in-table mass e = let h = range 951 5050 mass e in record { setting = _; is = at-row mass (h .0) (h .1) }
-
-pub out-of-table : (mass : ℕ) → inTable mass ≡ false → settingAnswer mass ≡ Refused ReferenceMass
-out-of-table mass e = go (leb 951 mass) refl (leb mass 5050) refl e
-  where
-    go : (a : Bool) → leb 951 mass ≡ a → (b : Bool) → leb mass 5050 ≡ b → (a && b) ≡ false → settingAnswer mass ≡ Refused ReferenceMass
-    go true over true under e = absurd (false≢true (sym e))
-    go true over false under e = too-heavy mass (leb-false mass 5050 under)
-    go false over b under e = let few = leb-false 951 mass over in too-light mass (omega arith)
-
--- ---- every setting is settled
-abbrev moderate : Setting → Bool
-moderate r = leb (r .inertia) 1000 && (leb 1 (r .resistance) && (leb (r .resistance) 1000 && leb (r .drag) 1000))
-
-moderate-settled : (r : Setting) → moderate r ≡ true → Settled r
-moderate-settled r t =
-    let one = both (leb (r .inertia) 1000) (leb 1 (r .resistance) && (leb (r .resistance) 1000 && leb (r .drag) 1000)) t in
-    let two = both (leb 1 (r .resistance)) (leb (r .resistance) 1000 && leb (r .drag) 1000) (one .1) in
-    let three = both (leb (r .resistance) 1000) (leb (r .drag) 1000) (two .1) in
-    record {
-      inertia = leb-true (r .inertia) 1000 (one .0);
-      some = leb-true 1 (r .resistance) (two .0);
-      resistance = leb-true (r .resistance) 1000 (three .0);
-      drag = leb-true (r .drag) 1000 (three .1);
-    }
+-- ---- what is so of the rule's settings is so of every setting
+of-ruled : (Of : ℕ → Setting → Type 0) → ((mass : ℕ) → 951 ≤ mass → mass ≤ 10000 → Of mass (ruled (inertiaOf mass)))
+    → (mass : ℕ) {s : Setting} → settingAnswer mass ≡ Set s → Of mass s
+of-ruled Of each mass e =
+    let is = is-ruled mass e in
+    let masses = range 951 10000 mass (is .0) in
+    subst (Of mass) (is .1) (each mass (masses .0) (masses .1))
 
 pub settled : (mass : ℕ) {s : Setting} → settingAnswer mass ≡ Set s → Settled s
-unfolding settingAnswer
-settled mass e =
-    found Settled mass annex3 (tested (λ r. belongs mass r ≡ true → Settled r) moderate (λ r t is. moderate-settled r t) annex3 refl) e
+unfolding inertiaOf rounded
+settled = of-ruled (λ mass. Settled) (λ mass low high. record { inertia = omega arith; some = omega arith; resistance = omega arith; drag = omega arith })
 
--- ---- a mass and its inertia: within 5 kg, and strictly above the low side. Both in 0.1 kg
+-- within 5 kg, and strictly above the low side. Both in 0.1 kg
 pub within-5-kg : (mass : ℕ) {s : Setting} → settingAnswer mass ≡ Set s → (10 * s .inertia < mass + 50) × (mass ≤ 10 * s .inertia + 50)
-unfolding settingAnswer
-within-5-kg mass e =
-    found (λ s. (10 * s .inertia < mass + 50) × (mass ≤ 10 * s .inertia + 50)) mass annex3
-    (tested (λ r. belongs mass r ≡ true → (10 * r .inertia < mass + 50) × (mass ≤ 10 * r .inertia + 50)) (λ r. leb 5 (r .inertia)) near annex3 refl) e
-  where
-    near : (r : Setting) → leb 5 (r .inertia) ≡ true → belongs mass r ≡ true → (10 * r .inertia < mass + 50) × (mass ≤ 10 * r .inertia + 50)
-    near r t is =
-        let two = both (ltb (above r) mass) (leb mass (upTo r)) is in
-        let low = ltb-true (above r) mass (two .0) in
-        let high = leb-true mass (upTo r) (two .1) in
-        let some = leb-true 5 (r .inertia) t in
-        (omega arith, omega arith)
+unfolding inertiaOf
+within-5-kg = of-ruled (λ mass s. (10 * s .inertia < mass + 50) × (mass ≤ 10 * s .inertia + 50)) (λ mass low high. (omega arith, omega arith))
+
+-- ---- settings never fall with the mass
+ruled-never-fall : (m n : ℕ) → m ≤ n → NotBelow (ruled (inertiaOf m)) (ruled (inertiaOf n))
+unfolding inertiaOf rounded
+ruled-never-fall m n h = record { inertia = omega arith; resistance = omega arith; drag = omega arith }
+
+pub settings-never-fall : (m n : ℕ) → m ≤ n → {s t : Setting} → settingAnswer m ≡ Set s → settingAnswer n ≡ Set t → NotBelow s t
+settings-never-fall m n h {s} e f = subst (NotBelow s) (is-ruled n f .1) (subst (λ (s : Setting). NotBelow s (ruled (inertiaOf n))) (is-ruled m e .1) (ruled-never-fall m n h))

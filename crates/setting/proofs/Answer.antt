@@ -12,8 +12,3 @@ refused-no-set p = let z : _≡_ {A = ℕ} 0 1 = cc in omega arith
 
 pub set-same : {s t : Setting} → Set s ≡ Set t → s ≡ t
 set-same e = cc
-
--- there is a setting, whichever
-pub record IsSet (a : SettingAnswer) : Type 0 where
-  pub setting : Setting
-  pub is : a ≡ Set setting

@@ -1,5 +1,3 @@
 pub mod Answer
-pub mod Rows
 pub mod Annex3
-pub mod Rising
 pub mod Examples

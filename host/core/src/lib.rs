@@ -23,7 +23,7 @@ use std::sync::Once;
 pub const LINKED: bool = cfg!(linked);
 
 /// The version of the header after which the types here are written.
-pub const VERSION: u32 = 11;
+pub const VERSION: u32 = 12;
 
 /// The version of the core's archive.
 ///
