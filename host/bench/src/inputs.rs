@@ -119,7 +119,7 @@ pub fn sheets(count: usize) -> [(&'static str, Vec<Sheet>); 2] {
 /// So many reference masses and rotating masses that are accepted, from the whole of both ranges.
 pub fn masses(count: usize) -> Vec<(u32, u32)> {
     let mut random = Random::new(1);
-    (0..count).map(|_| (random.from(951, 5050), random.from(0, 50_000))).collect()
+    (0..count).map(|_| (random.from(951, 10_000), random.from(0, 50_000))).collect()
 }
 
 /// Ends from the whole of their range and verdicts with no order to them, so that no branch can be foreseen.

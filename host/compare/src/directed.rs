@@ -1,5 +1,5 @@
 //! Cases made to a purpose: every row of 01's table of refusals at every place that it names, both sides of every range, every order in which faults
-//! can meet, every sentence about gears and about lots, every row of the dynamometer's table. Beside each stands what 01 or 02 says of it, worked out by
+//! can meet, every sentence about gears and about lots, every row of the dynamometer's rule. Beside each stands what 01 or 02 says of it, worked out by
 //! hand: number and place, gears, the ends of a speed, its tenths, a verdict, a setting, a whole lot. The rest of the answer is the second implementation's.
 //!
 //! `cargo run --release -p compare --bin directed` stores them in host/vectors. A line with '#' says what is to be seen in the line after it.
