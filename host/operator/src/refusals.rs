@@ -32,7 +32,7 @@ const ROWS: [(u32, &str); 21] = [
     (13, "G not below Q"),
     (14, "H above 30"),
     (15, "normal and reduced counts differ"),
-    (16, "reference mass outside the table"),
+    (16, "reference mass outside"),
     (17, "rotating mass or speed outside"),
     (18, "more than 256 records in a lot"),
     (19, "ethane efficiency under methane efficiency plus 500 thousandths"),

@@ -27,7 +27,8 @@ pub fn of_masses(masses: &Given<Masses>, outputs: Outputs) -> Result<Told, Failu
     let title = format!("Dynamometer setting of {}", files::name(&masses.path));
     outputs.write(|| csv(masses.value, &sheet), || curves::svg(&title, &words(masses.value, sheet.setting), &sheet))?;
     let table = table(&sheet);
-    Ok(Told::accepted(format!("{title}\n{}\n\n{}\n{table}", masses.value, settings(sheet.setting))).noting(&masses.notes))
+    let told = format!("{title}\n{}\n\n{}\n{}\n{table}", masses.value, settings(sheet.setting), rule(sheet.setting));
+    Ok(Told::accepted(told).noting(&masses.notes))
 }
 
 /// What is set, with its unit.
@@ -42,6 +43,22 @@ fn named(setting: Setting) -> [(&'static str, &'static str, String); 3] {
 fn settings(setting: Setting) -> String {
     let lines = named(setting).map(|(name, unit, value)| format!("{:<40}{value:>10}\n", format!("    {name}, {unit}")));
     format!("Setting\n{}", lines.concat())
+}
+
+/// A decimal of so many places, with no zero after the last that counts.
+fn exact(number: i64, places: usize) -> String {
+    decimal(number, places).trim_end_matches('0').trim_end_matches('.').to_string()
+}
+
+/// Why a and b stand beside the inertia: the rule under Annex 3's table, worked from the inertia with nothing lost, and then what the core rounds it to.
+fn rule(setting: Setting) -> String {
+    let inertia = i64::from(setting.inertia);
+    let [_, (_, newtons, a), (_, per_square, b)] = named(setting);
+    let (before_a, before_b) = (exact(88 * inertia, 3), exact(15 * inertia + 20_000, 6));
+    format!(
+        "    a = 0.088 x {inertia} = {before_a}, to one decimal {a} {newtons}\n    \
+         b = 0.000015 x {inertia} + 0.02 = {before_b}, to four decimals, halves up, {b} {per_square}\n"
+    )
 }
 
 /// The masses and the setting in one line.
