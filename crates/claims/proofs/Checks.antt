@@ -16,7 +16,7 @@ use Rattle.walk.specs.Walk.{scan}
 use Rattle.walk.proofs.Same.{scan-good}
 use Rattle.vehicle.specs.declared.VehicleSheet.{VehicleSheet}
 use Rattle.house.specs.House.{headed, countOf, markedAt}
-use Rattle.trace.specs.Judging.{countable, judgeTrace, judgePair, judgeMarks}
+use Rattle.trace.specs.Judging.{countable, judgeFile, judgeTrace, judgePair, judgeMarks}
 use Rattle.house.specs.House.{secondGood}
 use Rattle.vehicle.specs.Sheet.{engineChecks, gearGood, gearRefusal, ruleChecks, mild, judgeVehicle}
 use Rattle.shift.specs.Speeds.{shiftOf}
@@ -50,7 +50,7 @@ abbrev pub each : (ℕ → Bool) → (ℕ → Refusal) → ℕ → ℕ → List 
 each holds refusal k zero = []
 each holds refusal k (suc n) = check (holds k) (refusal k) ∷ each holds refusal (k + 1) n
 
-then-list : (cs ds : List Check) → andThen (judgedBy cs) (judgedBy ds) ≡ judgedBy (cs ++ ds)
+pub then-list : (cs ds : List Check) → andThen (judgedBy cs) (judgedBy ds) ≡ judgedBy (cs ++ ds)
 then-list cs ds = sym (checkedAll-append cs ds Accepted ∙ checkedAll-then cs (judgedBy ds))
 
 scan-each : (good : ℕ → Bool) (refusal : ℕ → Refusal) (k n : ℕ)
@@ -63,22 +63,30 @@ scan-each good refusal k (suc n) =
     by true r rest = refl
     by false r rest = refl
 
--- ---- a trace, 1 to 4, and a pair
-abbrev heads : List ℕ → List Check
-heads trace =
-    check (headed trace) Header
-    ∷ check (countable (countOf trace)) Count
-    ∷ check (eqb (length trace) (8 + 4 * countOf trace)) Length
+-- ---- a file, 1 to 4: by whether it has a head and which seconds are good
+abbrev heads : Bool → List ℕ → List Check
+heads known file =
+    check known Header
+    ∷ check (countable (countOf file)) Count
+    ∷ check (eqb (length file) (8 + 4 * countOf file)) Length
     ∷ []
 
+abbrev pub fileChecks : Bool → (ℕ → Bool) → List ℕ → List Check
+fileChecks known good file = heads known file ++ each good (λ k. Second (k + 1)) 0 (countOf file)
+
+pub file-judged : (known : Bool) (good : ℕ → Bool) (file : List ℕ)
+    → judgeFile known file (scan good (λ k. Refused (Second (k + 1))) (λ k. Accepted) 0 (countOf file)) ≡ judgedBy (fileChecks known good file)
+file-judged known good file =
+    ap (checkedAll (heads known file)) (scan-each good (λ k. Second (k + 1)) 0 (countOf file))
+    ∙ sym (checkedAll-append (heads known file) (each good (λ k. Second (k + 1)) 0 (countOf file)) Accepted)
+
+-- ---- a trace, and a pair
 abbrev pub traceChecks : List ℕ → List Check
-traceChecks trace = heads trace ++ each (secondGood trace) (λ k. Second (k + 1)) 0 (countOf trace)
+traceChecks trace = fileChecks (headed trace) (secondGood trace) trace
 
 trace-judged : (trace : List ℕ) → judgeTrace trace ≡ judgedBy (traceChecks trace)
 unfolding judgeTrace
-trace-judged trace =
-    ap (checkedAll (heads trace)) (scan-each (secondGood trace) (λ k. Second (k + 1)) 0 (countOf trace))
-    ∙ sym (checkedAll-append (heads trace) (each (secondGood trace) (λ k. Second (k + 1)) 0 (countOf trace)) Accepted)
+trace-judged trace = file-judged (headed trace) (secondGood trace) trace
 
 abbrev pub pairChecks : List ℕ → List ℕ → List Check
 pairChecks normal reduced = traceChecks normal ++ (traceChecks reduced ++ (check (eqb (countOf normal) (countOf reduced)) PairCounts ∷ []))

@@ -69,6 +69,24 @@ writer-write-trace-unique κs a x y ws vs pre h h′ = (h .0 ∙ sym (h′ .0), 
 pub trace-judge-marks-unique : Coincide 1 trace.judge_marks.Kinds.ps trace.judge_marks.Kinds.r trace.judge_marks.Reads.Pre trace.judge_marks.Reads.Post
 trace-judge-marks-unique κs a x y ws vs pre h h′ = (h ∙ sym h′, refl)
 
+pub house-has-draft-head-unique : Coincide 1 house.has_draft_head.Kinds.ps house.has_draft_head.Kinds.r house.has_draft_head.Reads.Pre house.has_draft_head.Reads.Post
+house-has-draft-head-unique κs a x y ws vs pre h h′ = (h ∙ sym h′, refl)
+
+pub house-is-missing-unique : Coincide 0 house.is_missing.Kinds.ps house.is_missing.Kinds.r house.is_missing.Reads.Pre house.is_missing.Reads.Post
+house-is-missing-unique κs a x y ws vs pre h h′ = (h ∙ sym h′, refl)
+
+pub house-phase-of-unique : Coincide 0 house.phase_of.Kinds.ps house.phase_of.Kinds.r house.phase_of.Reads.Pre house.phase_of.Reads.Post
+house-phase-of-unique κs a x y ws vs pre h h′ = (h .0 ∙ sym (h′ .0), refl)
+
+pub house-with-phase-unique : Coincide 0 house.with_phase.Kinds.ps house.with_phase.Kinds.r house.with_phase.Reads.Pre house.with_phase.Reads.Post
+house-with-phase-unique κs a x y ws vs pre h h′ = (h ∙ sym h′, refl)
+
+pub house-is-draft-good-unique : Coincide 1 house.is_draft_good.Kinds.ps house.is_draft_good.Kinds.r house.is_draft_good.Reads.Pre house.is_draft_good.Reads.Post
+house-is-draft-good-unique κs a x y ws vs pre h h′ = (h ∙ sym h′, refl)
+
+pub trace-judge-file-unique : Coincide 1 trace.judge_file.Kinds.ps trace.judge_file.Kinds.r trace.judge_file.Reads.Pre trace.judge_file.Reads.Post
+trace-judge-file-unique κs a x y ws vs pre h h′ = (h ∙ sym h′, refl)
+
 -- ---- arith
 pub arith-whole-unique : Coincide 0 arith.whole.Kinds.ps arith.whole.Kinds.r arith.whole.Reads.Pre arith.whole.Reads.Post
 arith-whole-unique κs a x y ws vs pre h h′ = (h ∙ sym h′, refl)
@@ -148,7 +166,7 @@ pub house-marked-at-unique : Coincide 1 house.marked_at.Kinds.ps house.marked_at
 house-marked-at-unique κs a x y ws vs pre h h′ = (h ∙ sym h′, refl)
 
 pub house-put-head-unique : Coincide 1 house.put_head.Kinds.ps house.put_head.Kinds.r house.put_head.Reads.Pre house.put_head.Reads.Post
-house-put-head-unique κs a x y ws vs pre h h′ = (refl, ap (λ (l : List ℕ). (l, (tt, tt))) (h ∙ sym h′))
+house-put-head-unique κs a x y ws vs pre h h′ = (refl, ap (λ (l : List ℕ). (l, (tt, (tt, tt)))) (h ∙ sym h′))
 
 pub house-put-second-unique : Coincide 1 house.put_second.Kinds.ps house.put_second.Kinds.r house.put_second.Reads.Pre house.put_second.Reads.Post
 house-put-second-unique κs a x y ws vs pre h h′ = (refl, ap (λ (l : List ℕ). (l, (tt, (tt, (tt, tt))))) (h ∙ sym h′))

@@ -1,25 +1,24 @@
 -- The versions of a trace (02, M-109): version 2 leaves corrections 2 and 3 nothing to act on; a version 1 trace without marks has the row and the refusals of the
 -- version 2 trace of its seconds; and what the writer wrote is read as it was meant. Assumes nothing.
-use mathlib.Core.Path.{_≡_, refl, sym, ap, _∙_}
+use mathlib.Core.Path.{_≡_, sym, ap, _∙_}
 use mathlib.Core.Bool.{Bool, true, false, cond, _&&_}
 use mathlib.Core.List.{List, _++_}
 use Prim.Native.Nat.{ℕ, _+_, _*_, _%_, _<_}
 use native.Mathlib.Omega.{arith}
 use lib.ListN.{length, take, drop}
-use lib.Dec.{eqb, leb}
-use borrow.Author.Tests.{le-leb, eq-eqb}
-use Rattle.refusal.specs.declared.Judged.the-variants.{Accepted, Refused}
-use Rattle.refusal.specs.declared.Refusal.the-variants.{Header, Count, Length, Second}
-use Rattle.refusal.specs.Judging.{checked, andThen, ifAccepted}
+use lib.Dec.{eqb}
+use borrow.Author.Tests.{le-leb}
+use Rattle.refusal.specs.declared.Judged.the-variants.{Accepted}
+use Rattle.refusal.specs.declared.Refusal.the-variants.{Count}
+use Rattle.refusal.specs.Judging.{andThen, ifAccepted}
 use Rattle.refusal.proofs.Judging.{checked-holds, then-holds}
-use Rattle.refusal.proofs.Ranges.{both}
-use Rattle.walk.proofs.Same.{scan-good}
+use Rattle.refusal.proofs.Ranges.{both, range}
 use Rattle.house.specs.House.{headed, versionOf, allows, countOf, speedAt, flagsAt, zeroAt, marked, secondGood}
-use Rattle.house.proofs.Versions.{allowed-second, phase-unmarked}
+use Rattle.house.proofs.Versions.{allowed-second, good-second, parts-good, phase-unmarked}
 use Rattle.house.proofs.Written.{file-length, file-version, file-count, file-speed, file-flags, file-zero}
 use Rattle.trace.specs.Judging.{countable, judgeSeconds, judgeTrace}
 use Rattle.trace.specs.Versions.{inVersion2, Plain}
-use Rattle.trace.proofs.Sound.{seconds-good}
+use Rattle.trace.proofs.Sound.{seconds-good, accepted-by}
 use Rattle.trace.proofs.Versions.{flags-same, speeds-same, count-same, judged-same, marks-same}
 use Rattle.vehicle.specs.declared.VehicleSheet.{VehicleSheet}
 use Rattle.vehicle.specs.Sheet.{judgeVehicle}
@@ -38,10 +37,8 @@ use Rattle.claims.specs.Versions.{Idle, SameSheet, ReadBack}
 -- an accepted one has no mark
 second-unmarked : (trace : List ℕ) → judgeTrace trace ≡ Accepted → versionOf trace ≡ 2 → (k : ℕ) → k < countOf trace → marked (flagsAt trace k) ≡ false
 second-unmarked trace e two k l =
-    let slow = leb (speedAt trace k) 2000 in
-    let known = allows (versionOf trace) (flagsAt trace k) in
-    let good = both (slow && known) (eqb (zeroAt trace k) 0) (seconds-good trace e k l) .0 in
-    let allowed = ap (λ (version : ℕ). allows version (flagsAt trace k)) (sym two) ∙ both slow known good .1 in
+    let good = good-second (versionOf trace) (speedAt trace k) (flagsAt trace k) (zeroAt trace k) (seconds-good trace e k l) in
+    let allowed = ap (λ (version : ℕ). allows version (flagsAt trace k)) (sym two) ∙ good .1 in
     phase-unmarked (flagsAt trace k) (allowed-second (flagsAt trace k) allowed)
 
 pub idle : (trace : List ℕ) → judgeTrace trace ≡ Accepted → versionOf trace ≡ 2 → Idle trace
@@ -99,28 +96,26 @@ module _ (seconds : List ℕ) (room : ℕ) (e : writeAnswer seconds room ≡ Acc
 
   good : (k : ℕ) → k < n → secondGood (written seconds) k ≡ true
   good k l =
-      let speed = le-leb (speedIn seconds k) 2000 (speeds-few seconds n taken k l) in
-      let phase = le-leb (phaseIn seconds k) 3 (phases-few seconds n taken k l) in
-      (λ i. leb (file-speed (speedIn seconds) (phaseIn seconds) n k l i) 2000 && allows 2 (file-flags (speedIn seconds) (phaseIn seconds) n k l i)
-      && eqb (file-zero (speedIn seconds) (phaseIn seconds) n k l i) 0)
-      ∙ (λ i. speed i && phase i && true)
+      let slow = speeds-few seconds n taken k l in
+      let speed = file-speed 2 (speedIn seconds) (phaseIn seconds) n k l in
+      parts-good (speedAt (written seconds) k) (zeroAt (written seconds) k) (omega (arith, slow, speed))
+      (ap (allows 2) (file-flags 2 (speedIn seconds) (phaseIn seconds) n k l) ∙ le-leb (phaseIn seconds k) 3 (phases-few seconds n taken k l))
+      (file-zero 2 (speedIn seconds) (phaseIn seconds) n k l)
 
   file-accepted : judgeTrace (written seconds) ≡ Accepted
-  unfolding judgeTrace
   file-accepted =
-      let long = file-length (speedIn seconds) (phaseIn seconds) n in
-      let count = file-count (speedIn seconds) (phaseIn seconds) n in
+      let long = file-length 2 (speedIn seconds) (phaseIn seconds) n in
+      let count = file-count 2 (speedIn seconds) (phaseIn seconds) n in
       let head : headed (written seconds) ≡ true = ap (λ (b : Bool). b && true) (le-leb 8 (length (written seconds)) (omega (arith, long))) in
-      let each = scan-good (λ k. Refused (Second (k + 1))) (λ k. Accepted) (secondGood (written seconds)) 0 n (λ j l. good j (omega arith)) in
-      (λ i. checked (head i) Header (checked (countable (count i)) Count (checked (eqb (long i) (8 + 4 * count i)) Length (judgeSeconds (written seconds) 0 (count i)))))
-      ∙ (λ i. checked (in-range i) Count (checked (eq-eqb (8 + 4 * n) (8 + 4 * n) refl i) Length (each i)))
+      let counts = range 1 2000 n in-range in
+      accepted-by (written seconds) head (omega (arith, count, counts .0)) (omega (arith, count, counts .1)) (omega (arith, count, long)) (λ k l. good k (omega (arith, count)))
 
   pub read-back : ReadBack seconds
   read-back =
       record {
         accepted = file-accepted;
-        version = file-version (speedIn seconds) (phaseIn seconds) n;
-        count = file-count (speedIn seconds) (phaseIn seconds) n;
-        speeds = λ k l. file-speed (speedIn seconds) (phaseIn seconds) n k l;
-        phases = λ k l. file-flags (speedIn seconds) (phaseIn seconds) n k l;
+        version = file-version 2 (speedIn seconds) (phaseIn seconds) n;
+        count = file-count 2 (speedIn seconds) (phaseIn seconds) n;
+        speeds = λ k l. file-speed 2 (speedIn seconds) (phaseIn seconds) n k l;
+        phases = λ k l. file-flags 2 (speedIn seconds) (phaseIn seconds) n k l;
       }

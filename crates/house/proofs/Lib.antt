@@ -1,3 +1,4 @@
 pub mod Phases
 pub mod Versions
 pub mod Written
+pub mod Drafts

@@ -6,19 +6,19 @@ use Prim.Native.Nat.{ℕ, _/_, _%_, _≤_}
 use native.Mathlib.Omega.{arith}
 use lib.Dec.{eqb, leb}
 use lib.ListN.{length, getD}
-use borrow.Author.Tests.{leb-true, ne-eqb}
-use Rattle.house.specs.House.{versionOf, readable, allows, headed, noShift, noFirst, marked, goodIn}
+use borrow.Author.Tests.{leb-true, le-leb, eqb-true, ne-eqb}
+use Rattle.house.specs.House.{versionOf, readable, allows, headed, noShift, noFirst, marked, goodBy, goodIn}
 
 pub or-false : (b : Bool) → b ≡ (b || false)
 or-false true = refl
 or-false false = refl
 
 -- where one of two holds, so does what follows from both
-of-either : {P : Type 0} (a b : Bool) → (a || b) ≡ true → (a ≡ true → P) → (b ≡ true → P) → P
+pub of-either : {P : Type 0} (a b : Bool) → (a || b) ≡ true → (a ≡ true → P) → (b ≡ true → P) → P
 of-either true b e p q = p refl
 of-either false b e p q = q e
 
-both-true : (a b : Bool) → (a && b) ≡ true → (a ≡ true) × (b ≡ true)
+pub both-true : (a b : Bool) → (a && b) ≡ true → (a ≡ true) × (b ≡ true)
 both-true true b e = (refl, e)
 both-true false b e = absurd (false≢true e)
 
@@ -31,13 +31,21 @@ allowed-most version flags e =
 pub allowed-second : (flags : ℕ) → allows 2 flags ≡ true → flags ≤ 3
 allowed-second flags e = leb-true flags 3 e
 
--- what 4 leaves of a second
-pub good-second : (version speed flags fourth : ℕ) → goodIn version speed flags fourth ≡ true → (speed ≤ 2000) × (allows version flags ≡ true)
-good-second version speed flags fourth e =
+-- what 4 leaves of a second, and that this is all
+pub good-parts : (allowed : Bool) (speed fourth : ℕ) → goodBy allowed speed fourth ≡ true → (speed ≤ 2000) × (allowed ≡ true) × (fourth ≡ 0)
+good-parts allowed speed fourth e =
     let slow = leb speed 2000 in
-    let known = allows version flags in
-    let two = both-true slow known (both-true (slow && known) (eqb fourth 0) e .0) in
-    (leb-true speed 2000 (two .0), two .1)
+    let three = both-true (slow && allowed) (eqb fourth 0) e in
+    let two = both-true slow allowed (three .0) in
+    (leb-true speed 2000 (two .0), two .1, eqb-true fourth 0 (three .1))
+
+pub parts-good : {allowed : Bool} (speed fourth : ℕ) → speed ≤ 2000 → allowed ≡ true → fourth ≡ 0 → goodBy allowed speed fourth ≡ true
+parts-good speed fourth slow known none =
+    let is = le-leb speed 2000 slow in
+    (λ i. is i && known i && eqb (none i) 0)
+
+pub good-second : (version speed flags fourth : ℕ) → goodIn version speed flags fourth ≡ true → (speed ≤ 2000) × (allows version flags ≡ true)
+good-second version speed flags fourth e = let parts = good-parts (allows version flags) speed fourth e in (parts .0, parts .1)
 
 -- and 1 of a version
 pub headed-readable : (trace : List ℕ) → headed trace ≡ true → readable (versionOf trace) ≡ true

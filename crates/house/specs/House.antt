@@ -21,11 +21,14 @@ readable version = eqb version 1 || eqb version 2
 abbrev pub allows : ℕ → ℕ → Bool
 allows version flags = (eqb version 1 && leb flags 15) || (eqb version 2 && leb flags 3)
 
--- 01, Trace: "bytes W T R, one zero byte, version"; W is 87, T 84, R 82. The head has 8 bytes
+-- 01, Trace: "bytes W T R, one zero byte, version"; W is 87, T 84, R 82. The head has 8 bytes, and its version is known or not
+abbrev pub headedBy : Bool → List ℕ → Bool
+headedBy known file =
+    leb 8 (length file)
+    && (eqb (getD file 0 0) 87 && eqb (getD file 1 0) 84 && eqb (getD file 2 0) 82 && eqb (getD file 3 0) 0 && known)
+
 abbrev pub headed : List ℕ → Bool
-headed trace =
-    leb 8 (length trace)
-    && (eqb (getD trace 0 0) 87 && eqb (getD trace 1 0) 84 && eqb (getD trace 2 0) 82 && eqb (getD trace 3 0) 0 && readable (versionOf trace))
+headed trace = headedBy (readable (versionOf trace)) trace
 
 -- 01, Trace: "count of seconds"
 abbrev pub countOf : List ℕ → ℕ
@@ -47,21 +50,25 @@ flagsAt trace k = getD trace (4 * k + 10) 0
 abbrev pub zeroAt : List ℕ → ℕ → ℕ
 zeroAt trace k = getD trace (4 * k + 11) 0
 
--- 01, Trace: "bits 0-1 phase (0 stop, ..)"
+-- 01, Trace: "bits 0-1 phase"
+abbrev pub phaseOf : ℕ → ℕ
+phaseOf flags = flags % 4
+
+-- 01, Trace: "0 stop"
 abbrev pub stop : ℕ → Bool
-stop flags = eqb (flags % 4) 0
+stop flags = eqb (phaseOf flags) 0
 
 -- 01, Trace: "1 acceleration"
 abbrev pub acceleration : ℕ → Bool
-acceleration flags = eqb (flags % 4) 1
+acceleration flags = eqb (phaseOf flags) 1
 
 -- 01, Trace: "2 cruise"
 abbrev pub cruise : ℕ → Bool
-cruise flags = eqb (flags % 4) 2
+cruise flags = eqb (phaseOf flags) 2
 
 -- 01, Trace: "3 deceleration"
 abbrev pub deceleration : ℕ → Bool
-deceleration flags = eqb (flags % 4) 3
+deceleration flags = eqb (phaseOf flags) 3
 
 -- 01, Trace: "bit 2 no gear-shift"
 abbrev pub noShift : ℕ → Bool
@@ -90,8 +97,33 @@ abbrev pub markedAt : List ℕ → ℕ → Bool
 markedAt trace k = markedIn (versionOf trace) (flagsAt trace k)
 
 -- 4: "speed, flags or fourth byte wrong": the speed 0 to 2,000, the flags as the version allows them, the fourth byte zero
+abbrev pub goodBy : Bool → ℕ → ℕ → Bool
+goodBy allowed speed fourth = leb speed 2000 && allowed && eqb fourth 0
+
 abbrev pub goodIn : ℕ → ℕ → ℕ → ℕ → Bool
-goodIn version speed flags fourth = leb speed 2000 && allows version flags && eqb fourth 0
+goodIn version speed flags fourth = goodBy (allows version flags) speed fourth
 
 abbrev pub secondGood : List ℕ → ℕ → Bool
 secondGood trace k = goodIn (versionOf trace) (speedAt trace k) (flagsAt trace k) (zeroAt trace k)
+
+-- ---- drafts (02, M-112): "The draft form is version 3 of the trace"
+abbrev pub draftHeaded : List ℕ → Bool
+draftHeaded draft = headedBy (eqb (versionOf draft) 3) draft
+
+-- "bit 4 for 'phase missing'"
+abbrev pub missing : ℕ → Bool
+missing flags = eqb (flags / 16 % 2) 1
+
+abbrev pub missingAt : List ℕ → ℕ → Bool
+missingAt draft k = missing (flagsAt draft k)
+
+-- "and then phase bits zero": bits 0 to 3 as in version 1, or bit 4 and the marks beside it
+abbrev pub draftAllows : ℕ → Bool
+draftAllows flags = leb flags 15 || (leb flags 31 && eqb (phaseOf flags) 0)
+
+abbrev pub draftGood : List ℕ → ℕ → Bool
+draftGood draft k = goodBy (draftAllows (flagsAt draft k)) (speedAt draft k) (zeroAt draft k)
+
+-- "the gap takes that phase": bit 4 goes, and the marks stay
+abbrev pub withPhase : ℕ → ℕ → ℕ
+withPhase flags phase = flags % 16 + phase

@@ -5,8 +5,9 @@ ghost use mathlib.Core.List.{_++_};
 ghost use Prim.Native.Nat.{_+_, _<_, _≤_};
 ghost use lib.Dec.{eqb};
 ghost use lib.ListN.{length, drop};
-ghost use Rattle.house.specs.House.{sixteenAt, versionOf, readable, allows, headed, countOf, Lasts};
-ghost use Rattle.house.specs.House.{speedAt, flagsAt, stop, stopAt, acceleration, deceleration, noShift, noFirst, marked, markedIn, markedAt, goodIn, secondGood};
+ghost use Rattle.house.specs.House.{sixteenAt, versionOf, readable, allows, headedBy, headed, countOf, Lasts};
+ghost use Rattle.house.specs.House.{speedAt, flagsAt, stop, stopAt, acceleration, deceleration, noShift, noFirst, marked, markedIn, markedAt, goodBy, goodIn, secondGood};
+ghost use Rattle.house.specs.House.{phaseOf, draftHeaded, missing, draftAllows, draftGood, withPhase};
 ghost use Rattle.house.specs.Written.{headOf, withSecond};
 
 // That a byte is below 256 is said here once, for all sums of bytes.
@@ -46,6 +47,12 @@ pub fn flags_at(trace: &[u8], k: usize) -> u8
     ensures { λ r. ⌜ r ≡ flagsAt (now (trace .entry)) k ⌝ }
 {
     trace[4 * k + 10]
+}
+
+pub fn phase_of(flags: u8) -> u8
+    ensures { λ r. ⌜ (r ≡ phaseOf flags) × (r < 4) ⌝ }
+{
+    flags % 4
 }
 
 pub fn is_stop(flags: u8) -> bool
@@ -120,13 +127,28 @@ fn is_allowed(version: usize, flags: u8) -> bool
     is_readable(version) & (flags <= most_flags(version))
 }
 
-// Of a trace with room for a head: the mark, the zero byte and the version.
+// Of a file with room for a head: the mark and the zero byte, and whether its version is known.
+fn is_headed(file: &[u8], known: bool) -> bool
+    requires { ⌜ 8 ≤ length (now file) ⌝ }
+    ensures { λ r. ⌜ r ≡ headedBy known (now (file .entry)) ⌝ }
+{
+    (file[0] == b'W') & (file[1] == b'T') & (file[2] == b'R') & (file[3] == 0) & known
+}
+
 pub fn has_head(trace: &[u8]) -> bool
     requires { ⌜ 8 ≤ length (now trace) ⌝ }
     ensures { λ r. ⌜ r ≡ headed (now (trace .entry)) ⌝ }
 {
     let known = is_readable(version_of(trace));
-    (trace[0] == b'W') & (trace[1] == b'T') & (trace[2] == b'R') & (trace[3] == 0) & known
+    is_headed(trace, known)
+}
+
+pub fn has_draft_head(draft: &[u8]) -> bool
+    requires { ⌜ 8 ≤ length (now draft) ⌝ }
+    ensures { λ r. ⌜ r ≡ draftHeaded (now (draft .entry)) ⌝ }
+{
+    let known = version_of(draft) == 3;
+    is_headed(draft, known)
 }
 
 // What refusal 20 is given for: a mark in version 1, which in version 2 would be refusal 4.
@@ -145,12 +167,18 @@ pub fn marked_at(trace: &[u8], k: usize) -> bool
     marked_in(version_of(trace), flags_at(trace, k))
 }
 
-// What refusal 4 asks of a second.
+// What refusal 4 asks of a second whose flags are allowed or not.
+fn good_by(allowed: bool, speed: usize, fourth: u8) -> bool
+    ensures { λ r. ⌜ r ≡ goodBy allowed speed fourth ⌝ }
+{
+    (speed <= 2000) & allowed & (fourth == 0)
+}
+
+// The same by the version of the trace that it is of.
 pub fn good_in(version: usize, speed: usize, flags: u8, fourth: u8) -> bool
     ensures { λ r. ⌜ r ≡ goodIn version speed flags fourth ⌝ }
 {
-    let allowed = is_allowed(version, flags);
-    (speed <= 2000) & allowed & (fourth == 0)
+    good_by(is_allowed(version, flags), speed, fourth)
 }
 
 // The same of second k.
@@ -166,29 +194,59 @@ pub fn is_good(trace: &[u8], k: usize) -> bool
     )
 }
 
-// The head of a file of version 2 with n seconds.
-pub fn put_head(file: &mut [u8], n: usize)
+// Whether the phase is missing, in a draft.
+pub fn is_missing(flags: u8) -> bool
+    ensures { λ r. ⌜ r ≡ missing flags ⌝ }
+{
+    flags / 16 % 2 == 1
+}
+
+fn draft_allows(flags: u8) -> bool
+    ensures { λ r. ⌜ r ≡ draftAllows flags ⌝ }
+{
+    (flags <= 15) | ((flags <= 31) & (flags % 4 == 0))
+}
+
+// What refusal 4 asks of second k of a draft.
+pub fn is_draft_good(draft: &[u8], k: usize) -> bool
+    requires { ⌜ Lasts (now draft) (k + 1) ⌝ }
+    ensures { λ r. ⌜ r ≡ draftGood (now (draft .entry)) k ⌝ }
+{
+    let allowed = draft_allows(flags_at(draft, k));
+    good_by(allowed, speed_at(draft, k), draft[4 * k + 11])
+}
+
+// The flags of a second that takes a phase, which is missing there.
+pub fn with_phase(flags: u8, phase: u8) -> u8
+    requires { ⌜ phase < 4 ⌝ }
+    ensures { λ r. ⌜ r ≡ withPhase flags phase ⌝ }
+{
+    flags % 16 + phase
+}
+
+// The head of a file with n seconds.
+pub fn put_head(file: &mut [u8], version: u16, n: usize)
     requires { ⌜ (8 ≤ length (now file)) × (n < 65536) ⌝ }
-    ensures { λ _. ⌜ now (file .exit) ≡ headOf n ++ drop 8 (now (file .entry)) ⌝ }
+    ensures { λ _. ⌜ now (file .exit) ≡ headOf version n ++ drop 8 (now (file .entry)) ⌝ }
 {
     file[0] = b'W';
     file[1] = b'T';
     file[2] = b'R';
     file[3] = 0;
-    file[4] = 2;
-    file[5] = 0;
+    file[4] = (version % 256) as u8;
+    file[5] = (version / 256) as u8;
     file[6] = (n % 256) as u8;
     file[7] = (n / 256) as u8;
 }
 
 // Second k of such a file.
-pub fn put_second(file: &mut [u8], k: usize, speed: u16, phase: u8)
+pub fn put_second(file: &mut [u8], k: usize, speed: u16, flags: u8)
     requires { ⌜ Lasts (now file) (k + 1) ⌝ }
-    ensures { λ _. ⌜ now (file .exit) ≡ withSecond (now (file .entry)) k speed phase ⌝ }
+    ensures { λ _. ⌜ now (file .exit) ≡ withSecond (now (file .entry)) k speed flags ⌝ }
 {
     let at = 4 * k + 8;
     file[at] = (speed % 256) as u8;
     file[at + 1] = (speed / 256) as u8;
-    file[at + 2] = phase;
+    file[at + 2] = flags;
     file[at + 3] = 0;
 }

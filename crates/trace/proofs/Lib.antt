@@ -1,3 +1,4 @@
+pub mod Files
 pub mod Sound
 pub mod Examples
 pub mod Versions

@@ -21,13 +21,14 @@ countable n = within 1 2000 n
 abbrev pub judgeSeconds : List ℕ → ℕ → ℕ → Judged
 judgeSeconds trace = scan (secondGood trace) (λ k. Refused (Second (k + 1))) (λ k. Accepted)
 
--- 1 to 4, the lowest number first
+-- 1 to 3, the lowest number first, of a file that has a head or not; then what is said of its seconds
+abbrev pub judgeFile : Bool → List ℕ → Judged → Judged
+judgeFile known file seconds =
+    checked known Header (checked (countable (countOf file)) Count (checked (eqb (length file) (8 + 4 * countOf file)) Length seconds))
+
+-- 1 to 4
 unfoldable pub judgeTrace : List ℕ → Judged
-judgeTrace trace =
-    checked (headed trace) Header
-    (checked (countable (countOf trace)) Count
-    (checked (eqb (length trace) (8 + 4 * countOf trace)) Length
-    (judgeSeconds trace 0 (countOf trace))))
+judgeTrace trace = judgeFile (headed trace) trace (judgeSeconds trace 0 (countOf trace))
 
 -- "For a pair of traces, 1 to 4 of the normal, then of the reduced, then 15"
 unfoldable pub judgePair : List ℕ → List ℕ → Judged

@@ -3,8 +3,10 @@ use refusal::Judged;
 use refusal::Refusal;
 ghost use mathlib.Core.Path.{_≡_};
 ghost use Prim.Native.Nat.{_≤_};
+ghost use lib.ListN.{length};
+ghost use Rattle.refusal.specs.declared.Judged.the-variants.{Accepted};
 ghost use Rattle.house.specs.House.{Lasts};
-ghost use Rattle.trace.specs.Judging.{judgeSeconds, judgeTrace, judgePair, judgeMarks};
+ghost use Rattle.trace.specs.Judging.{judgeSeconds, judgeFile, judgeTrace, judgePair, judgeMarks};
 ghost use Rattle.trace.specs.Choice.{Chosen};
 
 // The first wrong one of the n seconds.
@@ -23,6 +25,24 @@ fn judge_seconds(trace: &[u8], n: usize) -> Judged
     Judged::Accepted
 }
 
+// Refusals 1 to 3 of a file with room for a head, which is one or not.
+pub fn judge_file(file: &[u8], headed: bool) -> Judged
+    requires { ⌜ 8 ≤ length (now file) ⌝ }
+    ensures { λ r. ⌜ r ≡ judgeFile headed (now (file .entry)) Accepted ⌝ }
+{
+    if !headed {
+        return Judged::Refused(Refusal::Header);
+    }
+    let n = house::count_of(file);
+    if !((1 <= n) & (n <= 2000)) {
+        return Judged::Refused(Refusal::Count);
+    }
+    if file.len() != 8 + 4 * n {
+        return Judged::Refused(Refusal::Length);
+    }
+    Judged::Accepted
+}
+
 // Refusals 1 to 4.
 pub fn judge(trace: &[u8]) -> Judged
     ensures { λ r. ⌜ r ≡ judgeTrace (now (trace .entry)) ⌝ }
@@ -30,17 +50,11 @@ pub fn judge(trace: &[u8]) -> Judged
     if trace.len() < 8 {
         return Judged::Refused(Refusal::Header);
     }
-    if !house::has_head(trace) {
-        return Judged::Refused(Refusal::Header);
-    }
-    let n = house::count_of(trace);
-    if !((1 <= n) & (n <= 2000)) {
-        return Judged::Refused(Refusal::Count);
-    }
-    if trace.len() != 8 + 4 * n {
-        return Judged::Refused(Refusal::Length);
-    }
-    judge_seconds(trace, n)
+    let judged = judge_file(trace, house::has_head(trace));
+    let Judged::Accepted = judged else {
+        return judged;
+    };
+    judge_seconds(trace, house::count_of(trace))
 }
 
 // Refusals 1 to 4 of the normal trace, then of the reduced one, then 15.

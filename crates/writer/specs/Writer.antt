@@ -56,7 +56,7 @@ withSeconds seconds n buffer = (take 8 buffer ++ secondsTo (speedIn seconds) (ph
 
 -- the file that is written
 abbrev pub written : List ℕ → List ℕ
-written seconds = fileOf (speedIn seconds) (phaseIn seconds) (countIn seconds)
+written seconds = fileOf 2 (speedIn seconds) (phaseIn seconds) (countIn seconds)
 
 -- the buffer at the end: the file at its front, and the bytes behind it as they were; on a refusal all of it
 unfoldable pub writeBuffer : List ℕ → List ℕ → List ℕ

@@ -40,9 +40,9 @@ fn put_seconds(seconds: &[u16], buffer: &mut [u8], n: usize)
 // The file at the front of the buffer.
 fn fill(seconds: &[u16], buffer: &mut [u8], n: usize)
     requires { ⌜ Filling (now seconds) (length (now buffer)) n ⌝ }
-    ensures { λ _. ⌜ now (buffer .exit) ≡ fileOf (speedIn (now (seconds .entry))) (phaseIn (now (seconds .entry))) n ++ drop (8 + 4 * n) (now (buffer .entry)) ⌝ }
+    ensures { λ _. ⌜ now (buffer .exit) ≡ fileOf 2 (speedIn (now (seconds .entry))) (phaseIn (now (seconds .entry))) n ++ drop (8 + 4 * n) (now (buffer .entry)) ⌝ }
 {
-    house::put_head(buffer, n);
+    house::put_head(buffer, 2, n);
     put_seconds(seconds, buffer, n);
 }
 

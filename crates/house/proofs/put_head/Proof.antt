@@ -16,7 +16,7 @@ eight-stores d a b c e f g h i room =
     ∙ four-stores (a ∷ b ∷ c ∷ e ∷ []) d 4 f g h i refl (omega arith)
 
 returns : tie.Need-returns
-returns c = let room = c .pre .0 in eight-stores (c .args .file .now) 87 84 82 0 2 0 (c .args .n % 256) (c .args .n / 256) (omega arith)
+returns c = let room = c .pre .0 in eight-stores (c .args .file .now) 87 84 82 0 (c .args .version % 256) (c .args .version / 256) (c .args .n % 256) (c .args .n / 256) (omega arith)
 
 pub put-head-spec : {M : Type 1} → statement M
 put-head-spec =
@@ -26,7 +26,9 @@ put-head-spec =
     (λ c. simp length-set (omega arith))
     (λ c. simp length-set (omega arith))
     (λ c. simp length-set (omega arith))
+    (λ c. search needs)
     (λ c. simp length-set (omega arith))
+    (λ c. search needs)
     (λ c. simp length-set (omega arith))
     (λ c. search needs)
     (λ c. simp length-set (omega arith))

@@ -1,55 +1,61 @@
--- `trace::judge` meets its contract: at each return the checks before it hold, and the one of that place decides. Assumes nothing.
-use mathlib.Core.Bool.{true}
-use mathlib.Core.Path.{_≡_, sym, _∙_}
+-- `trace::judge` meets its contract: a file too short for a head has none, and the seconds are judged last. Assumes nothing.
+use mathlib.Core.Bool.{Bool}
+use mathlib.Core.Path.{_≡_, sym, ap, _∙_}
+use mathlib.Core.List.{List}
+use Prim.Native.Nat.{ℕ}
 use native.Mathlib.Omega.{arith}
-use lib.Dec.{leb}
 use borrow.Author.Needs.{needs}
-use borrow.Author.Tests.{lt-leb, leb-true, eq-eqb, ne-eqb, not-true, not-false}
-use Rattle.house.specs.House.{headed}
-use Rattle.trace.specs.Judging.{countable, judgeTrace}
-use Rattle.refusal.proofs.Ranges.{both}
+use borrow.Author.Tests.{lt-leb}
+use Rattle.refusal.specs.declared.Judged.{Judged}
+use Rattle.refusal.specs.declared.Judged.the-variants.{Accepted}
+use Rattle.refusal.specs.Judging.{andThen}
+use Rattle.house.specs.House.{headed, countOf}
+use Rattle.trace.specs.Judging.{judgeSeconds, judgeFile, judgeTrace}
+use Rattle.trace.proofs.Files.{seconds-then, Passed, passed}
 use Rattle.trace.proofs.judge.Statement.{statement}
 use Rattle.trace.proofs.judge.Tie as tie
 
--- past the test of the head, and past that of the count
-is-headed : (c : tie.Else2) → headed (c .before .before .before .before .args .trace .now) ≡ true
-is-headed c = sym (c .before .has-head .ensures) ∙ not-false _ (c .if2 .left)
+abbrev bytes : tie.After-judge-file → List ℕ
+bytes c = c .before .before .before .before .args .trace .now
 
-is-countable : (c : tie.Else3) → countable (c .before .count-of .result) ≡ true
-is-countable c = not-false (countable (c .before .count-of .result)) (c .if3 .left)
+file-judged : (c : tie.After-judge-file) → c .judge-file .result ≡ judgeFile (headed (bytes c)) (bytes c) Accepted
+file-judged c = c .judge-file .ensures ∙ ap (λ (known : Bool). judgeFile known (bytes c) Accepted) (c .before .has-head .ensures)
+
+-- by what is said of the file first
+by-file : (file : List ℕ) {j : Judged} → judgeFile (headed file) file Accepted ≡ j → judgeTrace file ≡ andThen j (judgeSeconds file 0 (countOf file))
+unfolding judgeTrace
+by-file file e =
+    let seconds = judgeSeconds file 0 (countOf file) in
+    seconds-then (headed file) file seconds ∙ ap (λ (j : Judged). andThen j seconds) e
 
 returns : tie.Need-returns
 unfolding judgeTrace
 returns c = simp (lt-leb _ _ (c .if1 .taken))
 
 returns-2 : tie.Need-returns-2
-unfolding judgeTrace
-returns-2 c = simp (sym (c .before .has-head .ensures) ∙ not-true _ (c .if2 .taken))
+returns-2 c =
+    let judged = c .before .before in
+    let told = c .enum-told2 .given .1 in
+    told ∙ sym (by-file (bytes judged) (sym (file-judged judged) ∙ told))
 
-returns-3 : tie.Need-returns-3
-unfolding judgeTrace
-returns-3 c =
-    let counted = c .before in
-    simp (is-headed (counted .before), sym (counted .count-of .ensures .0), not-true (countable (counted .count-of .result)) (c .if3 .taken))
+accepted : (c : tie.After-enum-told) → judgeFile (headed (bytes (c .before .before))) (bytes (c .before .before)) Accepted ≡ Accepted
+accepted c = sym (file-judged (c .before .before)) ∙ c .enum-told .given .1
 
-returns-4 : tie.Need-returns-4
-unfolding judgeTrace
-returns-4 c =
-    let counted = c .before .before in
-    simp (is-headed (counted .before), sym (counted .count-of .ensures .0), is-countable (c .before), ne-eqb _ _ (c .if4 .taken))
+is-sound : (c : tie.After-enum-told) → Passed (headed (bytes (c .before .before))) (bytes (c .before .before)) Accepted
+is-sound c = passed _ _ _ (accepted c)
 
 judge-seconds-requires : tie.Need-judge-seconds-requires
 judge-seconds-requires c κs =
-    let n = c .before .before .count-of .result in
-    (omega arith, leb-true n 2000 (both (leb 1 n) (leb n 2000) (is-countable (c .before)) .1))
+    let sound = is-sound (c .before) in
+    let is = c .count-of .ensures .0 in
+    (omega (arith, sound .exact, is), omega (arith, sound .few, is))
 
-returns-5 : tie.Need-returns-5
-unfolding judgeTrace
-returns-5 c =
-    let else4 = c .before in
-    let counted = else4 .before .before in
-    simp (is-headed (counted .before), sym (counted .count-of .ensures .0), is-countable (else4 .before), eq-eqb _ _ (else4 .if4 .left))
-    (c .judge-seconds .ensures)
+returns-3 : tie.Need-returns-3
+returns-3 c =
+    let counted = c .before in
+    let told = counted .before in
+    let file = bytes (told .before .before) in
+    c .judge-seconds .ensures ∙ ap (judgeSeconds file 0) (counted .count-of .ensures .0) ∙ sym (by-file file (accepted told))
 
 pub judge-spec : {M : Type 1} → statement M
 judge-spec =
@@ -57,11 +63,10 @@ judge-spec =
     (tie.spec
     returns
     (λ c κs. search needs)
+    (λ c κs. search needs)
+    (λ c. search needs)
+    (λ c. search needs)
     returns-2
     (λ c κs. search needs)
-    returns-3
-    (λ c. search needs)
-    (λ c. search needs)
-    returns-4
     judge-seconds-requires
-    returns-5)
+    returns-3)

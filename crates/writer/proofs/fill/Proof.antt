@@ -11,11 +11,11 @@ use Rattle.writer.specs.Writer.{speedIn, phaseIn, withSeconds}
 use Rattle.writer.proofs.fill.Statement.{statement}
 use Rattle.writer.proofs.fill.Tie as tie
 
-behind : (seconds buffer : List ℕ) (n : ℕ) → withSeconds seconds n (headOf n ++ drop 8 buffer) ≡ fileOf (speedIn seconds) (phaseIn seconds) n ++ drop (8 + 4 * n) buffer
+behind : (seconds buffer : List ℕ) (n : ℕ) → withSeconds seconds n (headOf 2 n ++ drop 8 buffer) ≡ fileOf 2 (speedIn seconds) (phaseIn seconds) n ++ drop (8 + 4 * n) buffer
 behind seconds buffer n =
     let place : 4 * n + 8 ≡ 8 + 4 * n = omega arith in
-    ap (λ (l : List ℕ). fileOf (speedIn seconds) (phaseIn seconds) n ++ l)
-    (ap (λ (i : ℕ). drop i (headOf n ++ drop 8 buffer)) place ∙ drop-append-add (headOf n) (drop 8 buffer) (4 * n) ∙ drop-drop (4 * n) 8 buffer)
+    ap (λ (l : List ℕ). fileOf 2 (speedIn seconds) (phaseIn seconds) n ++ l)
+    (ap (λ (i : ℕ). drop i (headOf 2 n ++ drop 8 buffer)) place ∙ drop-append-add (headOf 2 n) (drop 8 buffer) (4 * n) ∙ drop-drop (4 * n) 8 buffer)
 
 returns : tie.Need-returns
 returns c =
