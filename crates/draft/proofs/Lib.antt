@@ -1,0 +1,9 @@
+pub mod Gaps
+pub mod Lists
+pub mod Answers
+pub mod Listing
+pub mod Bounds
+pub mod Mending
+pub mod Again
+pub mod Turning
+pub mod Examples

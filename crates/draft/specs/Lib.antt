@@ -1,0 +1,3 @@
+pub mod Draft
+pub mod Gap
+pub mod Statements
