@@ -31,7 +31,7 @@ extern "C" {
  *
  *     if (ylhovesko_version() != YLHOVESKO_VERSION) return EXIT_FAILURE;
  */
-#define YLHOVESKO_VERSION 12u
+#define YLHOVESKO_VERSION 13u
 
 /* The version of the archive. */
 uint32_t ylhovesko_version(void);
@@ -231,6 +231,44 @@ ylhovesko_live_last ylhovesko_live_end(ylhovesko_live state);
  * 2,000 or a phase above 3; 8 where the trace does not fit, which takes 8 + 4 x count bytes.
  */
 ylhovesko_outcome ylhovesko_write_trace(const uint16_t *seconds, size_t seconds_length, uint8_t *buffer, size_t buffer_length);
+
+/*
+ * The tool for technicians who type cycles from scans: a draft is a trace in which a second's phase may be missing, and nothing else may. It is the house
+ * file with version 3, in which bit 4 of a second's flags says "phase missing"; bits 0-1 are 0 then. The marks, bits 2 and 3, may stand in every second, and
+ * bits 5-7 are 0. No other function reads a draft: ylhovesko_gears, ylhovesko_judge_pair and ylhovesko_live_begin refuse version 3 with 1.
+ *
+ * Mending: a gap is a run of seconds with the phase missing, as long as it can be. Where a second stands on either side of it, both of one phase, and the
+ * speeds of those two and of every second in the gap are equal, every second of the gap takes that phase and keeps its marks. Any other gap stays open, one
+ * at an end of the draft too. All other seconds come out as they were.
+ *
+ * The mended draft, of version 3 too, goes to the front of buffer, as many bytes as the draft has; the seconds that were changed and those that are left
+ * open go to the front of the two lists, counted from 1 and rising. What is behind stays. Lengths of lists count entries. Mending what was mended changes
+ * nothing.
+ *
+ *     uint8_t mended[YLHOVESKO_TRACE_BYTES(YLHOVESKO_TRACE_MOST)];
+ *     uint16_t changed[YLHOVESKO_TRACE_MOST], open[YLHOVESKO_TRACE_MOST];
+ *     ylhovesko_mended m = ylhovesko_mend(draft, draft_length, mended, sizeof mended, changed, YLHOVESKO_TRACE_MOST, open, YLHOVESKO_TRACE_MOST);
+ */
+typedef struct {
+    ylhovesko_outcome outcome; /* where it is a refusal the two counts are 0 */
+    uint32_t changed;          /* how many seconds were changed */
+    uint32_t open;             /* how many are left open */
+} ylhovesko_mended;
+
+/*
+ * Refusals 1 to 4, read by version 3, then 8, where the buffer or one of the two lists is too small for this answer: 8 + 4 x count bytes, and as many
+ * entries as there are seconds to name.
+ */
+ylhovesko_mended ylhovesko_mend(const uint8_t *draft, size_t draft_length, uint8_t *buffer, size_t buffer_length, uint16_t *changed,
+                                size_t changed_length, uint16_t *open, size_t open_length);
+
+/*
+ * A draft with nothing open, turned into a trace of version 1 with the same seconds and marks, at the front of buffer; the bytes behind it stay.
+ *
+ * Refusals 1 to 4, read by version 3, where 4 is for an open second too, the earlier of the first faulty and the first open one; then 8, where the trace
+ * does not fit, which takes as many bytes as the draft.
+ */
+ylhovesko_outcome ylhovesko_turn(const uint8_t *draft, size_t draft_length, uint8_t *buffer, size_t buffer_length);
 
 /*
  * The normal and the reduced trace of a cycle, judged as a pair. Refusals 1 to 4 of the normal one, then of the reduced one, then 15. The two may differ in

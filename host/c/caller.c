@@ -1035,6 +1035,240 @@ static void live(ylhovesko_vehicle vehicle)
     live_states();
 }
 
+/*
+ * Stops around a second without its phase; then two without it in cruise, at one speed, the first with a mark; one between two phases, one beside another
+ * speed, and one at the end: 2, 5 and 6 are mended, and 8, 10 and 12 stay open
+ */
+static const uint8_t draft[] = {'W', 'T', 'R', 0, 3, 0, 12, 0, 0, 0, 0, 0, 0, 0, 16, 0, 0, 0, 4, 0, 44, 1, 2, 0, 44, 1, 24, 0, 44, 1, 16, 0,
+                                44, 1, 2, 0, 44, 1, 20, 0, 44, 1, 3, 0, 20, 0, 16, 0, 44, 1, 3, 0, 44, 1, 16, 0};
+static const uint8_t mended_draft[] = {'W', 'T', 'R', 0, 3, 0, 12, 0, 0, 0, 0, 0, 0, 0, 0, 0, 0, 0, 4, 0, 44, 1, 2, 0, 44, 1, 10, 0, 44, 1, 2, 0,
+                                       44, 1, 2, 0, 44, 1, 20, 0, 44, 1, 3, 0, 20, 0, 16, 0, 44, 1, 3, 0, 44, 1, 16, 0};
+static const uint16_t in_changed[] = {2, 5, 6}, in_open[] = {8, 10, 12};
+
+static int mends(ylhovesko_mended m, uint32_t changed, uint32_t open)
+{
+    return is(m.outcome, 0, 0) && m.changed == changed && m.open == open;
+}
+
+/* whether a draft is mended with this outcome, with so much room, and all that was lent stays as it was; at most 12 seconds and 12 entries */
+static int not_mended(const uint8_t *given, size_t length, size_t room, size_t changed_room, size_t open_room, uint32_t number, uint32_t at)
+{
+    uint8_t buffer[YLHOVESKO_TRACE_BYTES(12)], before[sizeof buffer];
+    uint16_t changed[12], open[12], entries[12];
+    ylhovesko_mended m;
+
+    memset(buffer, 7, sizeof buffer);
+    memset(before, 7, sizeof before);
+    memset(changed, 7, sizeof changed);
+    memset(open, 7, sizeof open);
+    memset(entries, 7, sizeof entries);
+    m = ylhovesko_mend(given, length, buffer, room, changed, changed_room, open, open_room);
+    return is(m.outcome, number, at) && m.changed == 0 && m.open == 0 && memcmp(buffer, before, sizeof buffer) == 0
+        && memcmp(changed, entries, sizeof changed) == 0 && memcmp(open, entries, sizeof open) == 0;
+}
+
+/* the header's example as it is printed there */
+static void mended_as_printed(void)
+{
+    const size_t draft_length = sizeof draft;
+
+    uint8_t mended[YLHOVESKO_TRACE_BYTES(YLHOVESKO_TRACE_MOST)];
+    uint16_t changed[YLHOVESKO_TRACE_MOST], open[YLHOVESKO_TRACE_MOST];
+    ylhovesko_mended m = ylhovesko_mend(draft, draft_length, mended, sizeof mended, changed, YLHOVESKO_TRACE_MOST, open, YLHOVESKO_TRACE_MOST);
+    expect("three are mended and three are open", mends(m, 3, 3));
+    expect("the mended draft", memcmp(mended, mended_draft, sizeof mended_draft) == 0);
+    expect("the seconds changed", memcmp(changed, in_changed, sizeof in_changed) == 0);
+    expect("the seconds left open", memcmp(open, in_open, sizeof in_open) == 0);
+}
+
+/* as much room as the answer takes, and what is behind; then what was mended once more */
+static void mended_exactly(void)
+{
+    uint8_t buffer[sizeof draft + 1], again[sizeof draft];
+    uint16_t changed[4], open[4];
+
+    memset(buffer, 7, sizeof buffer);
+    memset(changed, 7, sizeof changed);
+    memset(open, 7, sizeof open);
+    expect("as much room as it takes to mend", mends(ylhovesko_mend(draft, sizeof draft, buffer, sizeof draft, changed, 3, open, 3), 3, 3));
+    expect("the mended draft, and the byte behind it", memcmp(buffer, mended_draft, sizeof draft) == 0 && buffer[sizeof draft] == 7);
+    expect("the list of changed ones, and the entry behind it", memcmp(changed, in_changed, sizeof in_changed) == 0 && changed[3] == 0x0707);
+    expect("the list of open ones, and the entry behind it", memcmp(open, in_open, sizeof in_open) == 0 && open[3] == 0x0707);
+    expect("mended once more", mends(ylhovesko_mend(buffer, sizeof draft, again, sizeof again, changed, 0, open, 3), 0, 3));
+    expect("nothing is changed", memcmp(again, mended_draft, sizeof again) == 0 && memcmp(changed, in_changed, sizeof in_changed) == 0);
+}
+
+/* each refusal of mending, and that each goes before the next: 1, 2, 3, 4, 8 */
+static void refused_mending(void)
+{
+    const uint8_t no_versions[] = {0, 1, 2, 4, 7, 19, 255};
+    uint8_t given[sizeof draft + 1];
+    size_t k;
+
+    memcpy(given, draft, sizeof draft);
+    expect("seven bytes of a draft", not_mended(given, 7, sizeof draft, 3, 3, 1, 0));
+    for (k = 0; k < sizeof no_versions; k++) {
+        given[4] = no_versions[k];
+        expect("no draft", not_mended(given, sizeof draft, sizeof draft, 3, 3, 1, 0));
+        expect("no draft before its length", not_mended(given, sizeof draft - 1, 0, 0, 0, 1, 0));
+    }
+    given[4] = 3;
+    expect("a draft that is too short", not_mended(given, sizeof draft - 1, sizeof draft, 3, 3, 3, 0));
+    expect("a draft that is too long", not_mended(given, sizeof given, sizeof draft, 3, 3, 3, 0));
+    given[6] = 0;
+    expect("a draft with no second", not_mended(given, sizeof draft, 0, 0, 0, 2, 0));
+    given[6] = 12;
+    given[8 + 4 * 11 + 3] = 1;
+    expect("the last second of a draft", not_mended(given, sizeof draft, sizeof draft, 3, 3, 4, 12));
+    given[8 + 4 * 4 + 1] = 8;
+    expect("the first of two faulty ones, before room", not_mended(given, sizeof draft, 0, 0, 0, 4, 5));
+    expect("room for the draft", not_mended(draft, sizeof draft, sizeof draft - 1, 12, 12, 8, 0));
+    expect("room for the changed ones", not_mended(draft, sizeof draft, sizeof draft, 2, 12, 8, 0));
+    expect("room for the open ones", not_mended(draft, sizeof draft, sizeof draft, 12, 2, 8, 0));
+    expect("no room to mend", not_mended(draft, sizeof draft, 0, 0, 0, 8, 0));
+}
+
+/* every byte as the flags of a second between two of 30.0 km/h in cruise */
+static void flags_of_a_draft(void)
+{
+    uint8_t given[] = {'W', 'T', 'R', 0, 3, 0, 3, 0, 44, 1, 2, 0, 44, 1, 0, 0, 44, 1, 14, 0}, buffer[sizeof given];
+    uint16_t changed[1], open[1];
+    uint32_t flags;
+
+    for (flags = 0; flags <= 255; flags++) {
+        given[14] = (uint8_t)flags;
+        if (flags >= 16 && (flags & 0xf3) != 16) {
+            expect("flags that no draft has", not_mended(given, sizeof given, sizeof given, 1, 1, 4, 2));
+            continue;
+        }
+        expect("flags that a draft has",
+               mends(ylhovesko_mend(given, sizeof given, buffer, sizeof buffer, changed, 1, open, 1), flags >= 16, 0));
+        expect("the flags after mending", buffer[14] == (flags < 16 ? flags : (flags & 12) + 2) && buffer[18] == 14);
+    }
+}
+
+static int is_missing(const uint8_t *given, size_t at)
+{
+    return (second_of(given, at).flags & 16) != 0;
+}
+
+/* the flags that the header gives a second, which is looked at by itself */
+static uint8_t flags_by_header(const uint8_t *given, size_t count, size_t at)
+{
+    const ylhovesko_second second = second_of(given, at);
+    size_t first = at, last = at, k;
+
+    while (first > 0 && is_missing(given, first))
+        first--;
+    while (last < count - 1 && is_missing(given, last))
+        last++;
+    /* where the second's own phase is there, both are the second itself */
+    if (is_missing(given, first) || is_missing(given, last) || (second_of(given, first).flags & 3) != (second_of(given, last).flags & 3))
+        return second.flags;
+    for (k = first; k <= last; k++)
+        if (second_of(given, k).speed != second.speed)
+            return second.flags;
+    return (uint8_t)((second.flags & 12) + (second_of(given, first).flags & 3));
+}
+
+/* a draft of noise with few speeds and phases, so that many gaps lie between the same; one in `most` of its seconds has no phase */
+static void fill_draft(uint8_t *given, uint16_t count, uint32_t most)
+{
+    const uint8_t head[] = {'W', 'T', 'R', 0, 3, 0, (uint8_t)count, (uint8_t)(count >> 8)};
+    uint16_t k;
+
+    memcpy(given, head, sizeof head);
+    for (k = 0; k < count; k++) {
+        const uint8_t phase = (uint8_t)(noise() % 8 == 0 ? 1 : 3), marks = (uint8_t)(noise() % 4 * 4);
+        const uint8_t second[] = {(uint8_t)(noise() % 16 == 0), 7, (uint8_t)((noise() % most == 0 ? 16 : phase) + marks), 0};
+
+        memcpy(given + YLHOVESKO_TRACE_BYTES(k), second, sizeof second);
+    }
+}
+
+/* every second as the header has it, and in one of the two lists where its phase was missing */
+static void mended_noise(uint16_t count, uint32_t most)
+{
+    static uint8_t given[YLHOVESKO_TRACE_BYTES(YLHOVESKO_TRACE_MOST)], buffer[sizeof given];
+    static uint16_t changed[YLHOVESKO_TRACE_MOST], open[YLHOVESKO_TRACE_MOST];
+    uint32_t listed_changed = 0, listed_open = 0;
+    ylhovesko_mended m;
+    uint16_t k;
+
+    fill_draft(given, count, most);
+    m = ylhovesko_mend(given, YLHOVESKO_TRACE_BYTES(count), buffer, sizeof buffer, changed, YLHOVESKO_TRACE_MOST, open, YLHOVESKO_TRACE_MOST);
+    expect("noise is mended", is(m.outcome, 0, 0) && memcmp(buffer, given, YLHOVESKO_TRACE_BYTES(0)) == 0);
+    for (k = 0; k < count; k++) {
+        const ylhovesko_second before = second_of(given, k), after = second_of(buffer, k);
+
+        expect("a second after mending", after.speed == before.speed && after.flags == flags_by_header(given, count, k) && after.fourth == 0);
+        if (is_missing(buffer, k))
+            expect("it is listed as open", listed_open < m.open && open[listed_open++] == k + 1);
+        else if (is_missing(given, k))
+            expect("it is listed as changed", listed_changed < m.changed && changed[listed_changed++] == k + 1);
+    }
+    expect("no other is listed", listed_changed == m.changed && listed_open == m.open);
+}
+
+/* a draft with nothing open: version 1, the same seconds and marks */
+static void turned(ylhovesko_vehicle vehicle)
+{
+    const uint8_t known[] = {'W', 'T', 'R', 0, 3, 0, 3, 0, 0, 0, 4, 0, 80, 0, 9, 0, 208, 7, 14, 0};
+    const uint8_t trace[] = {'W', 'T', 'R', 0, 1, 0, 3, 0, 0, 0, 4, 0, 80, 0, 9, 0, 208, 7, 14, 0, 7};
+    uint8_t buffer[sizeof known + 1], row[6];
+
+    memset(buffer, 7, sizeof buffer);
+    expect("a draft before it is turned", is(ylhovesko_judge_pair(known, sizeof known, known, sizeof known), 1, 0)
+               && is(ylhovesko_gears(known, sizeof known, vehicle, row, sizeof row, 0), 1, 0));
+    expect("too little room to turn", is(ylhovesko_turn(known, sizeof known, buffer, sizeof known - 1), 8, 0) && buffer[0] == 7 && buffer[4] == 7);
+    expect("a draft is turned", is(ylhovesko_turn(known, sizeof known, buffer, sizeof known), 0, 0));
+    expect("the trace, and the byte behind it", memcmp(buffer, trace, sizeof buffer) == 0);
+    expect("the trace is taken", is(ylhovesko_judge_pair(buffer, sizeof known, buffer, sizeof known), 0, 0)
+               && is(ylhovesko_gears(buffer, sizeof known, vehicle, row, sizeof row, 0), 0, 0));
+}
+
+/* an open second and a faulty one, the earlier of which is named, also before room; and what else is refused */
+static void refused_turning(void)
+{
+    uint8_t given[sizeof draft], buffer[sizeof draft], before[sizeof draft];
+
+    memset(buffer, 7, sizeof buffer);
+    memset(before, 7, sizeof before);
+    expect("an open second, though it would be mended", is(ylhovesko_turn(draft, sizeof draft, buffer, sizeof buffer), 4, 2));
+    expect("the first that stays open", is(ylhovesko_turn(mended_draft, sizeof mended_draft, buffer, sizeof buffer), 4, 8));
+    expect("an open second before room", is(ylhovesko_turn(mended_draft, sizeof mended_draft, buffer, 0), 4, 8));
+    memcpy(given, mended_draft, sizeof given);
+    given[8 + 4 * 8 + 1] = 8;
+    expect("a faulty second behind an open one", is(ylhovesko_turn(given, sizeof given, buffer, sizeof buffer), 4, 8));
+    given[8 + 4 * 6 + 3] = 1;
+    expect("a faulty second before an open one", is(ylhovesko_turn(given, sizeof given, buffer, sizeof buffer), 4, 7));
+    expect("a draft's length", is(ylhovesko_turn(given, sizeof given - 1, buffer, 0), 3, 0));
+    given[6] = 0;
+    expect("a draft's count", is(ylhovesko_turn(given, sizeof given - 1, buffer, 0), 2, 0));
+    given[4] = 1;
+    expect("a trace is not turned", is(ylhovesko_turn(given, sizeof given - 1, buffer, 0), 1, 0));
+    expect("the buffer after refused turning", memcmp(buffer, before, sizeof buffer) == 0);
+}
+
+static void drafts(ylhovesko_vehicle vehicle)
+{
+    uint16_t count;
+
+    mended_as_printed();
+    mended_exactly();
+    refused_mending();
+    flags_of_a_draft();
+    for (count = 1; count <= 200; count++) {
+        mended_noise(count, 1);
+        mended_noise(count, 2);
+        mended_noise(count, 8);
+    }
+    mended_noise(YLHOVESKO_TRACE_MOST, 1);
+    mended_noise(YLHOVESKO_TRACE_MOST, 3);
+    turned(vehicle);
+    refused_turning();
+}
+
 int main(void)
 {
     const ylhovesko_vehicle vehicle = {300, 200, 8000, 1200, 4, {20000, 12000, 9000, 7000, 0, 0, 0, 0}, 1};
@@ -1047,6 +1281,7 @@ int main(void)
     pairs();
     versions(vehicle);
     live(vehicle);
+    drafts(vehicle);
     shift_speeds(vehicle);
     whole_tenths(vehicle);
     clutch(vehicle);

@@ -5,6 +5,8 @@
  *   'v'                                 ->  version (32 bits)
  *   'g' trace, vehicle, buffer, start   ->  outcome, the buffer's bytes
  *   'n' seconds, buffer                 ->  outcome, the buffer's bytes
+ *   'm' draft, buffer, two lists        ->  outcome and counts, the buffer's bytes, the entries of both lists
+ *   'u' draft, buffer                   ->  outcome, the buffer's bytes
  *   'b' version (32 bits), vehicle      ->  state of the live engine
  *   'h' state, second                   ->  state, what is given
  *   'e' state                           ->  outcome, what is given
@@ -20,8 +22,8 @@
  *   'd' mass, rotating mass, the three arrays -> dynamometer setting, the three arrays
  *   'l' records                         ->  lot sheet
  *
- * where a slice is its length (64 bits) and its bytes, a slice of seconds or records its count (64 bits) and its bytes, and the masses and the speed of
- * a dynamometer are 32 bits each.
+ * where a slice is its length (64 bits) and its bytes, a list or a slice of seconds or records its count (64 bits) and its bytes, and the masses and the
+ * speed of a dynamometer are 32 bits each.
  */
 #include <stdio.h>
 
@@ -34,11 +36,16 @@ struct slice {
     uint8_t bytes[MOST];
 };
 
+struct list {
+    uint64_t length;
+    uint16_t entries[MOST_NUMBERS];
+};
+
 static struct slice one, two;
 
 /* far more than a lot or a trace may have, so that one with too many is refused by the core and not here */
 static ylhovesko_record records[MOST_RECORDS];
-static uint16_t numbers[MOST_NUMBERS];
+static struct list numbers, others;
 
 static int take(void *to, size_t length)
 {
@@ -50,9 +57,19 @@ static int take_slice(struct slice *s)
     return take(&s->length, sizeof s->length) && s->length <= MOST && take(s->bytes, (size_t)s->length);
 }
 
+static int take_list(struct list *l)
+{
+    return take(&l->length, sizeof l->length) && l->length <= MOST_NUMBERS && take(l->entries, (size_t)l->length * sizeof l->entries[0]);
+}
+
 static int give(const void *from, size_t length)
 {
     return fwrite(from, 1, length, stdout) == length;
+}
+
+static int give_list(const struct list *l)
+{
+    return give(l->entries, (size_t)l->length * sizeof l->entries[0]);
 }
 
 static int version(void)
@@ -76,13 +93,33 @@ static int gears(void)
 
 static int write_trace(void)
 {
-    uint64_t length;
     ylhovesko_outcome o;
 
-    if (!take(&length, sizeof length) || length > MOST_NUMBERS || !take(numbers, (size_t)length * sizeof *numbers) || !take_slice(&one))
+    if (!take_list(&numbers) || !take_slice(&one))
         return 0;
-    o = ylhovesko_write_trace(numbers, (size_t)length, one.bytes, (size_t)one.length);
+    o = ylhovesko_write_trace(numbers.entries, (size_t)numbers.length, one.bytes, (size_t)one.length);
     return give(&o, sizeof o) && give(one.bytes, (size_t)one.length);
+}
+
+static int mend(void)
+{
+    ylhovesko_mended m;
+
+    if (!take_slice(&one) || !take_slice(&two) || !take_list(&numbers) || !take_list(&others))
+        return 0;
+    m = ylhovesko_mend(one.bytes, (size_t)one.length, two.bytes, (size_t)two.length, numbers.entries, (size_t)numbers.length, others.entries,
+                       (size_t)others.length);
+    return give(&m, sizeof m) && give(two.bytes, (size_t)two.length) && give_list(&numbers) && give_list(&others);
+}
+
+static int turn(void)
+{
+    ylhovesko_outcome o;
+
+    if (!take_slice(&one) || !take_slice(&two))
+        return 0;
+    o = ylhovesko_turn(one.bytes, (size_t)one.length, two.bytes, (size_t)two.length);
+    return give(&o, sizeof o) && give(two.bytes, (size_t)two.length);
 }
 
 static int live_begin(void)
@@ -258,6 +295,10 @@ static int answer(int call)
         return gears();
     case 'n':
         return write_trace();
+    case 'm':
+        return mend();
+    case 'u':
+        return turn();
     case 'b':
         return live_begin();
     case 'h':

@@ -26,6 +26,10 @@ static ylhovesko_record records[YLHOVESKO_LOT_MOST];
 static ylhovesko_lot_sheet lot_sheet;
 /* the live engine, which is begun first and then takes those seconds */
 static ylhovesko_live live;
+/* stops, of which all but the first and the last have no phase; the lists of its seconds, and the trace that it is turned into when it is mended */
+static uint8_t draft[YLHOVESKO_TRACE_BYTES(YLHOVESKO_TRACE_MOST)] = {'W', 'T', 'R', 0, 3, 0, 0xd0, 7};
+static uint16_t changed[YLHOVESKO_TRACE_MOST], open[YLHOVESKO_TRACE_MOST];
+static uint8_t turned[sizeof draft];
 
 static const ylhovesko_vehicle vehicle = {300, 200, 8000, 1200, 4, {20000, 12000, 9000, 7000, 0, 0, 0, 0}, 2};
 
@@ -74,6 +78,47 @@ static void write_no_trace(void)
 static void gears_of_version_2(void)
 {
     if (ylhovesko_gears(written, sizeof written, vehicle, row, sizeof row, 0).number != 0)
+        wrong = 1;
+}
+
+/* by the speed of its last second, so that all have been compared */
+static void mend_nothing(void)
+{
+    uint8_t *speed = &draft[sizeof draft - 4];
+    ylhovesko_mended m;
+
+    *speed = 1;
+    m = ylhovesko_mend(draft, sizeof draft, written, sizeof written, changed, YLHOVESKO_TRACE_MOST, open, YLHOVESKO_TRACE_MOST);
+    *speed = 0;
+    if (m.outcome.number != 0 || m.changed != 0 || m.open != YLHOVESKO_TRACE_MOST - 2)
+        wrong = 1;
+}
+
+static void mend_refused_by_room(void)
+{
+    if (ylhovesko_mend(draft, sizeof draft, written, sizeof written, changed, YLHOVESKO_TRACE_MOST - 3, open, 0).outcome.number != 8)
+        wrong = 1;
+}
+
+static void mend(void)
+{
+    const ylhovesko_mended m = ylhovesko_mend(draft, sizeof draft, written, sizeof written, changed, YLHOVESKO_TRACE_MOST, open, YLHOVESKO_TRACE_MOST);
+
+    if (m.outcome.number != 0 || m.changed != YLHOVESKO_TRACE_MOST - 2 || m.open != 0)
+        wrong = 1;
+}
+
+static void turn(void)
+{
+    if (ylhovesko_turn(written, sizeof written, turned, sizeof turned).number != 0)
+        wrong = 1;
+}
+
+/* by its last second, so that all have been looked at */
+static void turn_refused(void)
+{
+    written[sizeof written - 2] = 16;
+    if (ylhovesko_turn(written, sizeof written, turned, sizeof turned).at != YLHOVESKO_TRACE_MOST)
         wrong = 1;
 }
 
@@ -271,6 +316,8 @@ int main(void)
         {"gears", gears, PROMISED}, {"gears by rule set 2", gears_by_set_2, PROMISED},
         {"gears refused by a mark", gears_refused_by_a_mark, PROMISED}, {"a trace written", write_trace, PROMISED},
         {"gears of version 2", gears_of_version_2, PROMISED}, {"a trace refused by its room", write_no_trace, PROMISED},
+        {"a draft left as it is", mend_nothing, PROMISED}, {"a draft refused by its room", mend_refused_by_room, PROMISED},
+        {"a draft mended", mend, PROMISED}, {"a draft turned", turn, PROMISED}, {"a draft refused by an open second", turn_refused, PROMISED},
         {"shift speeds", speeds, PROMISED}, {"shift speeds in tenths", tenths, PROMISED}, {"a pair of traces", pair, PROMISED},
         {"the first result", a_result_with_cutter, PROMISED}, {"a result with the cutter", a_result_with_cutter, PROMISED},
         {"a result without the cutter", a_result_without_cutter, PROMISED},
@@ -287,6 +334,7 @@ int main(void)
         trace[8 + 4 * k + 2] = (uint8_t)(k % 4);
         seconds[2 * k] = trace[8 + 4 * k];
         seconds[2 * k + 1] = (uint16_t)(k % 4);
+        draft[8 + 4 * k + 2] = k == 0 || k == YLHOVESKO_TRACE_MOST - 1 ? 0 : 16;
     }
     for (k = 0; k < YLHOVESKO_LOT_MOST; k++)
         records[k].has_nmhc = 1;
