@@ -16,6 +16,8 @@ pub mod Annex3
 pub mod DynoTable
 pub mod LotTable
 pub mod LiveTable
+pub mod DraftTable
+pub mod Drafts
 pub mod Lots
 pub mod Rows
 pub mod Seconds

@@ -122,7 +122,7 @@ pub further : (number a b : ℕ) → suc a ≤ b → notAfter (outcome number a 
 further number a b h = rw (eq-eqb (turn number) (turn number) refl, lt-ltb a b h) (or-true (ltb (turn number) (turn number)))
 
 -- places that count on, and what comes after them
-rising-lines : (good : ℕ → Bool) (number d k n : ℕ) (last : Outcome) (rest : List Line)
+pub rising-lines : (good : ℕ → Bool) (number d k n : ℕ) (last : Outcome) (rest : List Line)
     → notAfter last (outcome number (k + d) 0 0) ≡ true → rising last rest ≡ true → ((a : ℕ) → a < k + n + d → rising (outcome number a 0 0) rest ≡ true)
     → rising last (lines (λ i. placed number (i + d) (good i)) k n ++ rest) ≡ true
 rising-lines good number d k zero last rest first now later = now

@@ -23,6 +23,8 @@ use Rattle.lot_crossing.specs.declared.LotOutcome.{LotOutcome}
 use Rattle.lot_crossing.specs.Lot.{lotOut}
 use Rattle.trace.proofs as trace
 use Rattle.writer.proofs as writer
+use Rattle.draft.proofs as draft
+use Rattle.draft_crossing.proofs as draft_crossing
 use Rattle.house.proofs as house
 use Rattle.arith.proofs as arith
 use Rattle.refusal.proofs as refusal
@@ -68,6 +70,20 @@ writer-write-trace-unique κs a x y ws vs pre h h′ = (h .0 ∙ sym (h′ .0), 
 
 pub trace-judge-marks-unique : Coincide 1 trace.judge_marks.Kinds.ps trace.judge_marks.Kinds.r trace.judge_marks.Reads.Pre trace.judge_marks.Reads.Post
 trace-judge-marks-unique κs a x y ws vs pre h h′ = (h ∙ sym h′, refl)
+
+-- ---- draft
+pub draft-mend-unique : Coincide 4 draft.mend.Kinds.ps draft.mend.Kinds.r draft.mend.Reads.Pre draft.mend.Reads.Post
+draft-mend-unique κs a x y ws vs pre h h′ =
+    let drafts = h .1 ∙ sym (h′ .1) in
+    let changes = h .2 ∙ sym (h′ .2) in
+    let lefts = h .3 ∙ sym (h′ .3) in
+    (h .0 ∙ sym (h′ .0), (λ i. (tt, (drafts i, (changes i, (lefts i, tt))))))
+
+pub draft-turn-unique : Coincide 2 draft.turn.Kinds.ps draft.turn.Kinds.r draft.turn.Reads.Pre draft.turn.Reads.Post
+draft-turn-unique κs a x y ws vs pre h h′ = (h .0 ∙ sym (h′ .0), ap (λ (l : List ℕ). (tt, (l, tt))) (h .1 ∙ sym (h′ .1)))
+
+pub draft-crossing-mend-out-unique : Coincide 0 draft_crossing.mend_out.Kinds.ps draft_crossing.mend_out.Kinds.r draft_crossing.mend_out.Reads.Pre draft_crossing.mend_out.Reads.Post
+draft-crossing-mend-out-unique κs a x y ws vs pre h h′ = (h ∙ sym h′, refl)
 
 pub house-has-draft-head-unique : Coincide 1 house.has_draft_head.Kinds.ps house.has_draft_head.Kinds.r house.has_draft_head.Reads.Pre house.has_draft_head.Reads.Post
 house-has-draft-head-unique κs a x y ws vs pre h h′ = (h ∙ sym h′, refl)
@@ -512,6 +528,16 @@ speeds-crossing-tenths-out-unique κs a x y ws vs pre h h′ = (h ∙ sym h′, 
 -- ---- boundary
 pub boundary-ylhovesko-gears-unique : Coincide 2 boundary.ylhovesko_gears.Kinds.ps boundary.ylhovesko_gears.Kinds.r boundary.ylhovesko_gears.Reads.Pre boundary.ylhovesko_gears.Reads.Post
 boundary-ylhovesko-gears-unique κs a x y ws vs pre h h′ = (h .0 ∙ sym (h′ .0), ap (λ (l : List ℕ). (tt, (tt, (l, (tt, tt))))) (h .1 ∙ sym (h′ .1)))
+
+pub boundary-ylhovesko-mend-unique : Coincide 4 boundary.ylhovesko_mend.Kinds.ps boundary.ylhovesko_mend.Kinds.r boundary.ylhovesko_mend.Reads.Pre boundary.ylhovesko_mend.Reads.Post
+boundary-ylhovesko-mend-unique κs a x y ws vs pre h h′ =
+    let drafts = h .1 ∙ sym (h′ .1) in
+    let changes = h .2 ∙ sym (h′ .2) in
+    let lefts = h .3 ∙ sym (h′ .3) in
+    (h .0 ∙ sym (h′ .0), (λ i. (tt, (drafts i, (changes i, (lefts i, tt))))))
+
+pub boundary-ylhovesko-turn-unique : Coincide 2 boundary.ylhovesko_turn.Kinds.ps boundary.ylhovesko_turn.Kinds.r boundary.ylhovesko_turn.Reads.Pre boundary.ylhovesko_turn.Reads.Post
+boundary-ylhovesko-turn-unique κs a x y ws vs pre h h′ = (h .0 ∙ sym (h′ .0), ap (λ (l : List ℕ). (tt, (l, tt))) (h .1 ∙ sym (h′ .1)))
 
 pub boundary-ylhovesko-write-trace-unique : Coincide 2 boundary.ylhovesko_write_trace.Kinds.ps boundary.ylhovesko_write_trace.Kinds.r boundary.ylhovesko_write_trace.Reads.Pre boundary.ylhovesko_write_trace.Reads.Post
 boundary-ylhovesko-write-trace-unique κs a x y ws vs pre h h′ = (h .0 ∙ sym (h′ .0), ap (λ (l : List ℕ). (tt, (l, tt))) (h .1 ∙ sym (h′ .1)))
