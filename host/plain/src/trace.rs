@@ -34,12 +34,15 @@ impl Second {
 /// "Bytes W T R, one zero byte": how a house file of every version begins.
 const HEAD: [u8; 4] = *b"WTR\0";
 
+/// "Speed in 0.1 km/h (.. 0 to 2,000)".
+pub(crate) const MOST_SPEED: u16 = 2000;
+
 /// "Bits 0-1 phase".
-const PHASE: u8 = 3;
+pub(crate) const PHASE: u8 = 3;
 /// "Bit 2 'no gear-shift'".
-const NO_GEAR_SHIFT: u8 = 4;
+pub(crate) const NO_GEAR_SHIFT: u8 = 4;
 /// "Bit 3 'no 1. gear'".
-const NO_FIRST_GEAR: u8 = 8;
+pub(crate) const NO_FIRST_GEAR: u8 = 8;
 
 /// The flags that a second may have in a version, if there is such a version: "trace version 2 has only the phase", and "version 1 is still read with its
 /// marks" (02, M-109). "The core itself refuses version 3" (02, M-112).
@@ -52,7 +55,7 @@ pub(crate) fn flags_of(version: u16) -> Option<u8> {
 }
 
 /// "16 bits, little-endian".
-fn sixteen(low: u8, high: u8) -> u16 {
+pub(crate) fn sixteen(low: u8, high: u8) -> u16 {
     u16::from_le_bytes([low, high])
 }
 
@@ -66,6 +69,20 @@ fn length(count: usize) -> usize {
     8 + 4 * count
 }
 
+/// The version that a house file names, or refusal 1 where it has no whole head.
+pub(crate) fn version(file: &[u8]) -> Result<u16, Refusal> {
+    check(file.len() >= 8 && file[..4] == HEAD, nowhere(1))?;
+    Ok(sixteen(file[4], file[5]))
+}
+
+/// The bytes of each second of a house file that has a whole head, or the first of the refusals 2 and 3.
+pub(crate) fn in_fours(file: &[u8]) -> Result<&[[u8; 4]], Refusal> {
+    let count = usize::from(sixteen(file[6], file[7]));
+    judge_count(count)?;
+    check(file.len() == length(count), nowhere(3))?;
+    Ok(file[8..].as_chunks().0)
+}
+
 /// The seconds of a house file by its own version, or the first of the refusals 1 to 4.
 ///
 /// ```
@@ -77,19 +94,14 @@ fn length(count: usize) -> usize {
 /// assert_eq!(plain::trace::read(&in_version_2).unwrap_err().number, 4);
 /// ```
 pub fn read(file: &[u8]) -> Result<Vec<Second>, Refusal> {
-    check(file.len() >= 8 && file[..4] == HEAD, nowhere(1))?;
-    let flags = flags_of(sixteen(file[4], file[5])).ok_or(nowhere(1))?;
-    let count = usize::from(sixteen(file[6], file[7]));
-    judge_count(count)?;
-    check(file.len() == length(count), nowhere(3))?;
-    (1..).zip(file[8..].chunks(4)).map(|(place, bytes)| second(bytes, flags).ok_or(at(4, place))).collect()
+    let flags = flags_of(version(file)?).ok_or(nowhere(1))?;
+    (1..).zip(in_fours(file)?).map(|(place, bytes)| second(bytes, flags).ok_or(at(4, place))).collect()
 }
 
 /// A second that has no other flags than these.
-pub(crate) fn second(bytes: &[u8], may_have: u8) -> Option<Second> {
-    let speed = u32::from(sixteen(bytes[0], bytes[1]));
-    let flags = bytes[2];
-    if speed > 2000 || flags & !may_have != 0 || bytes[3] != 0 {
+pub(crate) fn second([low, high, flags, fourth]: &[u8; 4], may_have: u8) -> Option<Second> {
+    let speed = sixteen(*low, *high);
+    if speed > MOST_SPEED || flags & !may_have != 0 || *fourth != 0 {
         return None;
     }
     let phase = match flags & PHASE {
@@ -98,7 +110,7 @@ pub(crate) fn second(bytes: &[u8], may_have: u8) -> Option<Second> {
         2 => Phase::Cruise,
         _ => Phase::Deceleration,
     };
-    Some(Second { speed, phase, no_gear_shift: flags & NO_GEAR_SHIFT != 0, no_first_gear: flags & NO_FIRST_GEAR != 0 })
+    Some(Second { speed: speed.into(), phase, no_gear_shift: flags & NO_GEAR_SHIFT != 0, no_first_gear: flags & NO_FIRST_GEAR != 0 })
 }
 
 /// "The writer for version 2" (02, M-109): the house file of the seconds at the front of the buffer; or the first refusal, "2, then 4 with the second, then 8"
@@ -117,22 +129,23 @@ pub fn write(numbers: &[u16], buffer: &mut [u8]) -> Result<(), Refusal> {
     check(alone.is_empty(), nowhere(2))?;
     judge_count(seconds.len())?;
     for (place, [speed, phase]) in (1..).zip(seconds) {
-        check(*speed <= 2000 && *phase <= 3, at(4, place))?;
+        check(*speed <= MOST_SPEED && *phase <= 3, at(4, place))?;
     }
-    let file = file_of(seconds);
+    // the flags of version 2 are the phase
+    let file = file_of(2, seconds);
     check(buffer.len() >= file.len(), nowhere(8))?;
     buffer[..file.len()].copy_from_slice(&file);
     Ok(())
 }
 
-/// The house file of version 2: the head, the version, the count, "then 4 bytes a second: speed .., flags, zero", where the flags are the phase.
-fn file_of(seconds: &[[u16; 2]]) -> Vec<u8> {
+/// A house file: the head, the version, the count, "then 4 bytes a second: speed .., flags, zero".
+pub(crate) fn file_of(version: u16, seconds: &[[u16; 2]]) -> Vec<u8> {
     let mut file = HEAD.to_vec();
-    file.extend(2_u16.to_le_bytes());
+    file.extend(version.to_le_bytes());
     file.extend((seconds.len() as u16).to_le_bytes());
-    for [speed, phase] in seconds {
+    for [speed, flags] in seconds {
         file.extend(speed.to_le_bytes());
-        file.extend([*phase as u8, 0]);
+        file.extend([*flags as u8, 0]);
     }
     file
 }

@@ -18,7 +18,7 @@ pub struct Directed {
 pub(super) struct Cases(Vec<Directed>);
 
 /// What stands before the last `*`, so many times.
-fn times(text: &str) -> impl Iterator<Item = &str> {
+pub(super) fn times(text: &str) -> impl Iterator<Item = &str> {
     let each = |word| match str::rsplit_once(word, '*') {
         Some((word, count)) => std::iter::repeat_n(word, count.parse().unwrap()),
         None => std::iter::repeat_n(word, 1),
