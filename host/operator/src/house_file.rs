@@ -2,7 +2,7 @@
 //!
 //! The table's columns are second, speed in 0.1 km/h and phase (stop, acc, cruise, dec), and of some tables also the marks "no gear-shift" and
 //! "no 1. gear" (0 or 1). A table that is not of this form makes no file, nor does one whose trace the core refuses. Version 2 is made, which has no marks:
-//! so that none is lost in silence, a table with a mark is refused unless version 1 is asked for.
+//! so that none is lost in silence, a table with a mark is refused unless version 1 is asked for. A table in which a phase is empty is a draft (draft.rs).
 
 use crate::arguments::Arguments;
 use crate::files::{self, LONGEST};
@@ -24,29 +24,37 @@ pub const MARKED_HEADING: &str = "second,speed_tenths,phase,no_gearshift,no_firs
 /// As the table names them, in the order of the trace's flags.
 const PHASES: [&str; 4] = ["stop", "acc", "cruise", "dec"];
 
-/// What the heading of a table says of its lines.
+/// What the heading of a table says of its lines, and whether a phase may be empty there.
 pub struct Columns {
     has_marks: bool,
+    of_draft: bool,
 }
 
 impl Columns {
     /// By the first line of a table; or what is said of another line.
     pub fn of(heading: &str) -> Result<Columns, String> {
-        match heading.trim_start_matches('\u{feff}').trim() {
-            HEADING => Ok(Columns { has_marks: false }),
-            MARKED_HEADING => Ok(Columns { has_marks: true }),
-            _ => Err(format!("the first line is neither '{HEADING}' nor '{MARKED_HEADING}'")),
-        }
+        let has_marks = match heading.trim_start_matches('\u{feff}').trim() {
+            HEADING => false,
+            MARKED_HEADING => true,
+            _ => return Err(format!("the first line is neither '{HEADING}' nor '{MARKED_HEADING}'")),
+        };
+        Ok(Columns { has_marks, of_draft: false })
+    }
+
+    /// The same of a draft.
+    fn of_draft(heading: &str) -> Result<Columns, String> {
+        Columns::of(heading).map(|columns| Columns { of_draft: true, ..columns })
     }
 
     /// The second of a line, where it is that of the second that is due; or what is said of a line of another form.
     pub fn second(&self, line: &str, due: usize) -> Result<Second, String> {
         let expected = || {
             let form = if self.has_marks { "SPEED,PHASE,MARK,MARK" } else { "SPEED,PHASE" };
+            let phases = if self.of_draft { "stop, acc, cruise, dec or none" } else { "stop, acc, cruise or dec" };
             let (at, found) = (line_of(due), quoted(line));
-            format!("line {at}: {found}, expected is '{due},{form}' with phase stop, acc, cruise or dec")
+            format!("line {at}: {found}, expected is '{due},{form}' with phase {phases}")
         };
-        second_of(line, due, self.has_marks).ok_or_else(expected)
+        second_of(line, due, self).ok_or_else(expected)
     }
 }
 
@@ -58,9 +66,17 @@ fn mark(word: &str) -> Option<bool> {
     }
 }
 
+/// A phase by its name, or none where it is missing and may be.
+fn phase_of(name: &str, may_be_missing: bool) -> Option<Option<usize>> {
+    if name.is_empty() && may_be_missing {
+        return Some(None);
+    }
+    PHASES.iter().position(|known| *known == name).map(Some)
+}
+
 /// A second, where the line is that of the second that is due; with the marks where the table has them. A line that is too long may have been cut, and
 /// would be another.
-fn second_of(line: &str, due: usize, has_marks: bool) -> Option<Second> {
+fn second_of(line: &str, due: usize, columns: &Columns) -> Option<Second> {
     if line.len() as u64 > LONGEST {
         return None;
     }
@@ -69,13 +85,12 @@ fn second_of(line: &str, due: usize, has_marks: bool) -> Option<Second> {
     if second.parse() != Ok(due) {
         return None;
     }
-    let [no_shift, no_first] = match (has_marks, marks) {
+    let [no_shift, no_first] = match (columns.has_marks, marks) {
         (true, [no_shift, no_first]) => [mark(no_shift)?, mark(no_first)?],
         (false, []) => [false; 2],
         _ => return None,
     };
-    let phase = PHASES.iter().position(|name| name == phase)?;
-    Some(Second::of(speed.parse().ok()?, phase, no_shift, no_first))
+    Some(Second::of(speed.parse().ok()?, phase_of(phase, columns.of_draft)?, no_shift, no_first))
 }
 
 /// The line of a table in which a second stands; the heading is line 1.
@@ -83,24 +98,31 @@ fn line_of(second: usize) -> usize {
     second + 1
 }
 
-/// The seconds of a table that is no longer than [`LONGEST`]: they are no more than a house file can count.
-fn seconds_of(table: &str) -> Result<Vec<Second>, String> {
-    let mut lines = table.lines();
-    let columns = Columns::of(lines.next().unwrap_or_default())?;
+/// The seconds of a table, by its first line. It is no longer than [`LONGEST`], so that they are no more than a house file can count.
+fn seconds_of(table: &[u8], by_heading: fn(&str) -> Result<Columns, String>) -> Result<Vec<Second>, String> {
+    if table.len() as u64 > LONGEST {
+        return Err(format!("it is longer than {LONGEST} bytes"));
+    }
+    let text = String::from_utf8_lossy(table);
+    let mut lines = text.lines();
+    let columns = by_heading(lines.next().unwrap_or_default())?;
     lines.zip(1..).map(|(line, due)| columns.second(line, due)).collect()
 }
 
-/// The seconds of a table in a file.
+/// The seconds of a table in which phases may be missing.
+pub fn seconds_of_draft(table: &[u8]) -> Result<Vec<Second>, String> {
+    seconds_of(table, Columns::of_draft)
+}
+
+/// The seconds of a table in a file; a draft is none, and it is said who reads it.
 fn read(table: &Path) -> Result<Vec<Second>, Failure> {
     let bytes = files::read(table)?;
-    let said = |complaint: String| Failure::of_file(table, &[complaint]);
-    if let Some(exchanged) = Kind::Table.exchanged(&bytes) {
-        return Err(said(exchanged));
-    }
-    if bytes.len() as u64 > LONGEST {
-        return Err(said(format!("it is longer than {LONGEST} bytes")));
-    }
-    seconds_of(&String::from_utf8_lossy(&bytes)).map_err(said)
+    let exchanged = Kind::Table.exchanged(&bytes);
+    let seconds = exchanged.map_or_else(|| seconds_of(&bytes, Columns::of), Err);
+    seconds.map_err(|complaint| {
+        let who_reads_it = if seconds_of_draft(&bytes).is_ok() { "; this is a draft: 'mend' and 'turn' read it" } else { "" };
+        Failure::of_file(table, &[complaint + who_reads_it])
+    })
 }
 
 /// The trace of a table in this version; or what is said of one that the core refuses.
@@ -143,13 +165,14 @@ pub fn house_file(given: &[OsString]) -> Result<Told, Failure> {
     Ok(made(&file.display().to_string(), &trace, version))
 }
 
-/// The table of an accepted trace, with the marks where its version has them.
-fn table_of(seconds: &[Second], has_marks: bool) -> String {
+/// The table of an accepted trace or draft, with the marks where its version has them.
+pub fn table_of(seconds: &[Second], has_marks: bool) -> String {
     let heading = if has_marks { MARKED_HEADING } else { HEADING };
     let lines = (1..).zip(seconds).map(|(number, second)| {
         let marks = [second.no_shift(), second.no_first()].map(u8::from);
         let marks = if has_marks { format!(",{},{}", marks[0], marks[1]) } else { String::new() };
-        format!("{number},{},{}{marks}\n", second.speed, PHASES[second.phase()])
+        let phase = if second.is_open() { "" } else { PHASES[second.phase()] };
+        format!("{number},{},{phase}{marks}\n", second.speed)
     });
     format!("{heading}\n{}", lines.collect::<String>())
 }

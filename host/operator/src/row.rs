@@ -41,8 +41,7 @@ pub fn rows_of(traces: &[&[u8]], vehicle: Vehicle) -> Result<Vec<Row>, (usize, R
 }
 
 fn second_of((number, (second, pair)): (usize, (trace::Second, &[u8]))) -> Second {
-    let phase = ["stop", "acceleration", "cruise", "deceleration"][second.phase()];
-    Second { number, speed: second.speed, phase, gear: pair[0], clutch_out: is_out(pair[1]) }
+    Second { number, speed: second.speed, phase: second.phase_name(), gear: pair[0], clutch_out: is_out(pair[1]) }
 }
 
 /// What the clutch byte of a second says.

@@ -16,19 +16,21 @@ const COUNT: Range<usize> = 6..8;
 /// What stands before the seconds.
 const HEAD: usize = COUNT.end;
 
-/// The versions of a trace.
+/// The versions of a house file.
 #[derive(Clone, Copy, PartialEq, Eq)]
 pub enum Version {
     /// A second has its phase and the marks.
     One,
     /// A second has its phase alone.
     Two,
+    /// A draft, and no trace: a second has the marks, and its phase may be missing.
+    Three,
 }
 
 impl Version {
-    /// That of a trace; none where the core reads no such version.
-    pub fn of(trace: &[u8]) -> Option<Version> {
-        [Version::One, Version::Two].into_iter().find(|version| version.number() == number(trace, VERSION))
+    /// That of a house file; none where the core reads no such version.
+    pub fn of(file: &[u8]) -> Option<Version> {
+        [Version::One, Version::Two, Version::Three].into_iter().find(|version| version.number() == number(file, VERSION))
     }
 
     /// The one that is made or read of a table. Columns for marks do not ask for version 1.
@@ -44,31 +46,39 @@ impl Version {
         match self {
             Version::One => 1,
             Version::Two => 2,
+            Version::Three => 3,
         }
     }
 
-    /// The largest flags of a second: every mark on the last phase, or the last phase.
-    fn largest_flags(self) -> u8 {
+    /// The flags that a second may have: the phases with every mark, or the phases; "phase missing" has none beside it but the marks.
+    fn flags(self) -> &'static str {
         match self {
-            Version::One => 15,
-            Version::Two => 3,
+            Version::One => "0 to 15",
+            Version::Two => "0 to 3",
+            Version::Three => "0 to 15 or 16, 20, 24, 28",
         }
     }
 
     /// What may stand in a second.
     fn range(self) -> String {
-        format!("0 to 2,000 in 0.1 km/h, 0 to {}, 0", self.largest_flags())
+        format!("0 to 2,000 in 0.1 km/h, {}, 0", self.flags())
     }
 }
 
-/// A trace that was read, with a line for each note on its file.
+/// A trace or a draft that was read, with a line for each note on its file.
 pub struct Trace {
     pub path: PathBuf,
     pub bytes: Vec<u8>,
     pub notes: String,
 }
 
-/// One second of a trace.
+/// The phases as they are printed, in the order of the flags.
+const PHASES: [&str; 4] = ["stop", "acceleration", "cruise", "deceleration"];
+
+/// Among the flags of a draft's second.
+const PHASE_MISSING: u8 = 16;
+
+/// One second of a trace or of a draft.
 #[derive(Clone, Copy)]
 pub struct Second {
     /// In 0.1 km/h.
@@ -78,9 +88,10 @@ pub struct Second {
 }
 
 impl Second {
-    pub fn of(speed: u16, phase: usize, no_shift: bool, no_first: bool) -> Second {
-        let flags = (phase as u8 & 3) | u8::from(no_shift) << 2 | u8::from(no_first) << 3;
-        Second { speed, flags, fourth: 0 }
+    /// No phase is one that is missing.
+    pub fn of(speed: u16, phase: Option<usize>, no_shift: bool, no_first: bool) -> Second {
+        let phase = phase.map_or(PHASE_MISSING, |phase| phase as u8 & 3);
+        Second { speed, flags: phase | u8::from(no_shift) << 2 | u8::from(no_first) << 3, fourth: 0 }
     }
 
     /// As the live engine takes it.
@@ -92,6 +103,15 @@ impl Second {
     /// 0 stop, 1 acceleration, 2 cruise, 3 deceleration.
     pub fn phase(self) -> usize {
         usize::from(self.flags & 3)
+    }
+
+    pub fn phase_name(self) -> &'static str {
+        PHASES[self.phase()]
+    }
+
+    /// Whether its phase is missing.
+    pub fn is_open(self) -> bool {
+        self.flags & PHASE_MISSING != 0
     }
 
     pub fn no_shift(self) -> bool {
@@ -134,18 +154,30 @@ pub fn house_file(seconds: &[Second], version: Version) -> Result<Vec<u8>, Refus
     match version {
         Version::One => with_marks(seconds),
         Version::Two => with_phases_alone(seconds),
+        Version::Three => Ok(draft_of(seconds)),
     }
 }
 
-/// The core has no writer of version 1: it judges what is made here.
-fn with_marks(seconds: &[Second]) -> Result<Vec<u8>, Refusal> {
+/// The draft of these seconds, which are no more than it can count. The core judges it when it is mended or turned.
+pub fn draft_of(seconds: &[Second]) -> Vec<u8> {
+    bytes_of(seconds, Version::Three)
+}
+
+/// The core has no writer of versions 1 and 3.
+fn bytes_of(seconds: &[Second], version: Version) -> Vec<u8> {
     let mut file = MARK.to_vec();
-    file.extend(Version::One.number().to_le_bytes());
+    file.extend(version.number().to_le_bytes());
     file.extend((seconds.len() as u16).to_le_bytes());
     for Second { speed, flags, fourth } in seconds {
         file.extend(speed.to_le_bytes());
         file.extend([flags, fourth]);
     }
+    file
+}
+
+/// The core judges what is made here.
+fn with_marks(seconds: &[Second]) -> Result<Vec<u8>, Refusal> {
+    let file = bytes_of(seconds, Version::One);
     judge_trace(&file)?;
     Ok(file)
 }
@@ -177,14 +209,15 @@ fn hexadecimal(bytes: &[u8]) -> String {
     bytes.iter().map(|byte| format!("{byte:02x}")).collect::<Vec<_>>().join(" ")
 }
 
-fn start(trace: &[u8]) -> String {
+/// What stands at the start of a file, of which one of these versions is expected.
+fn start(trace: &[u8], versions: &str) -> String {
     if trace.len() < HEAD {
         return format!("{} bytes; at least {HEAD}", trace.len());
     }
     if !trace.starts_with(&MARK) {
         return format!("begins with {}; {}", hexadecimal(&trace[..MARK.len()]), hexadecimal(&MARK));
     }
-    format!("version {}; 1 or 2", grouped(number(trace, VERSION).into()))
+    format!("version {}; {versions}", grouped(number(trace, VERSION).into()))
 }
 
 fn length(trace: &[u8]) -> String {
@@ -196,8 +229,17 @@ fn length(trace: &[u8]) -> String {
 
 /// Where a refusal of a trace lies, and what stands there.
 pub fn found(trace: &[u8], refusal: Refusal) -> Found {
+    found_in(trace, "1 or 2", refusal)
+}
+
+/// The same of a draft.
+pub fn found_in_draft(draft: &[u8], refusal: Refusal) -> Found {
+    found_in(draft, "3", refusal)
+}
+
+fn found_in(trace: &[u8], versions: &str, refusal: Refusal) -> Found {
     let value = match (refusal.number, Version::of(trace)) {
-        (1, _) => start(trace),
+        (1, _) => start(trace, versions),
         (2, _) => count(trace),
         (3, _) => length(trace),
         (_, Some(version)) => return found_in_second(&seconds(trace), version, refusal),

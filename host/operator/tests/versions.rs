@@ -227,7 +227,7 @@ fn a_mark_in_version_2_is_refused() {
 #[test]
 fn no_other_version_is_read() {
     let (table, row) = (to_be_made("other_version.csv"), to_be_made("other_version_row.csv"));
-    for (version, number) in [(0, "0"), (3, "3"), (257, "257"), (258, "258"), (512, "512"), (65_535, "65,535")] {
+    for (version, number) in [(0, "0"), (4, "4"), (257, "257"), (258, "258"), (259, "259"), (512, "512"), (65_535, "65,535")] {
         let words = format!("1 under 8 bytes, mark, zero byte or version wrong: version {number}; 1 or 2");
         let bytes = trace(version, &SECONDS);
         refused(&format!("version_{version}.wtr"), &bytes, &words);
