@@ -1,5 +1,6 @@
 // Ends of numbers: signed division rounded down and up, and what the stages of 01 do with pairs of ends. The gear sheet and the emission sheet
 // stand on these contracts alone.
+#![tactic(auto)]
 ghost use Rattle.std.specs.Prelude.{◌≡◌, pos, ◌<ℤ◌};
 ghost use Rattle.arith.specs.Rounding.{div_down, div_up};
 ghost use Rattle.arith.specs.Stages.{smaller, larger, exactly, sum_of, difference_of, scaled_by, hull_of, product_of, divided_by};
@@ -42,7 +43,7 @@ pub fn larger(m: i64, n: i64) -> i64
 
 // The lower and the upper end of a number.
 #[repr(C)]
-#[derive(Drop)]
+#[derive(Clone, Copy)]
 pub struct Ends {
     pub lower: i64,
     pub upper: i64,

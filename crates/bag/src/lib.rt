@@ -1,5 +1,6 @@
 // The bag sheet of a Type I test (01, Bag sheet and figures), judged: refusals 10 and 11. Each function below takes what the checks after
 // its own say, so that the checks stand last to first.
+#![tactic(auto)]
 ghost use Rattle.std.specs.Prelude.{◌≡◌, leb};
 ghost use Rattle.refusal.specs.declared.Refusal.TheVariants.{Value};
 ghost use Rattle.refusal.specs.Judging.{checked, checked_all};
@@ -12,7 +13,7 @@ use refusal::{Judged, Refusal};
 
 // Field 9: milligrams per cubic metre.
 #[repr(C)]
-#[derive(Drop)]
+#[derive(Clone, Copy)]
 pub struct Densities {
     pub hc: u32,
     pub co: u32,
@@ -22,7 +23,7 @@ pub struct Densities {
 }
 
 // Fields 1 to 9 of a part, in the units of 01's table, and its messages as received.
-#[derive(Drop)]
+#[derive(Clone, Copy)]
 pub struct Part {
     pub pump: u32,
     pub revolutions: u32,
@@ -39,7 +40,7 @@ pub struct Part {
 
 // Field 10: the dilution triple, in tenths.
 #[repr(C)]
-#[derive(Drop)]
+#[derive(Clone, Copy)]
 pub struct Triple {
     pub d: u32,
     pub wc: u32,
@@ -48,7 +49,7 @@ pub struct Triple {
 
 // Field 11: k in 1/10,000, the three carbon factors in 1/1,000, the fuel's density in g/l.
 #[repr(C)]
-#[derive(Drop)]
+#[derive(Clone, Copy)]
 pub struct Fuel {
     pub k: u32,
     pub hc: u32,
@@ -59,7 +60,7 @@ pub struct Fuel {
 
 // Field 12: micrograms/km.
 #[repr(C)]
-#[derive(Drop)]
+#[derive(Clone, Copy)]
 pub struct Limits {
     pub hc: u64,
     pub co: u64,
@@ -70,14 +71,14 @@ pub struct Limits {
 
 // Field 13: how much of methane and of ethane the cutter takes away, in thousandths.
 #[repr(C)]
-#[derive(Drop)]
+#[derive(Clone, Copy)]
 pub struct Efficiencies {
     pub methane: u32,
     pub ethane: u32,
 }
 
 // `parts` is the number of parts given. The third is read for class 3 alone.
-#[derive(Drop)]
+#[derive(Clone, Copy)]
 pub struct BagSheet {
     pub class: u32,
     pub parts: u32,

@@ -6,10 +6,11 @@
 //
 // A number is a whole number, a decimal or a fraction, with a minus before it and a unit after it if it has them. No contract says what is read; what is
 // printed of each case is compared.
+#![tactic(auto)]
 ghost use Rattle.std.specs.Prelude.{◌≡◌, ◌≤◌, ◌<◌, length};
 
 // A number as far as it is read: its digits, what they are over, the point or the stroke that was passed, its sign and the first letter of its unit.
-#[derive(Drop)]
+#[derive(Clone, Copy)]
 pub struct Number {
     pub digits: u64,
     pub over: u64,
@@ -82,7 +83,7 @@ fn with_byte(x: Number, byte: u8) -> Number {
 }
 
 // A number and its place, as far as they are read.
-#[derive(Drop)]
+#[derive(Clone, Copy)]
 pub struct Reader {
     pub place: usize,
     pub number: Number,
@@ -186,7 +187,7 @@ fn read_changes(line: &[u8], lasting: &mut [u64; 802], own: &mut [u64; 802]) -> 
 }
 
 // Where the text of a case ends, and where its line does. The text of a line that is none ends where it begins.
-#[derive(Drop)]
+#[derive(Clone, Copy)]
 pub struct Line {
     pub said: usize,
     pub end: usize,

@@ -1,5 +1,6 @@
 // The bag sheet and the result of a test as they cross the boundary: a struct of another crate that is marked #[repr(C)] as it is; what holds an enum in a
 // form of its own here, in numbers.
+#![tactic(auto)]
 ghost use Rattle.std.specs.Prelude.{◌≡◌};
 ghost use Rattle.emission.specs.declared.Answer.TheVariants.{Result};
 ghost use Rattle.crossing.specs.Sheet.{message_of, bag_of, sheet_part_of, sheet_of, with_nothing, result_out};
@@ -15,7 +16,7 @@ use sides::Gases;
 
 // A message of the analyser: kind 0 ppm, 1 percent, 2 over range, 3 not fitted, and every other over range too. The float comes as its bits.
 #[repr(C)]
-#[derive(Drop)]
+#[derive(Clone, Copy)]
 pub struct MessageNumbers {
     pub kind: u32,
     pub bits: u32,
@@ -23,7 +24,7 @@ pub struct MessageNumbers {
 
 // The messages of one bag, or of its dilution air.
 #[repr(C)]
-#[derive(Drop)]
+#[derive(Clone, Copy)]
 pub struct BagNumbers {
     pub hc: MessageNumbers,
     pub co: MessageNumbers,
@@ -34,7 +35,7 @@ pub struct BagNumbers {
 
 // `bag::Part`, its messages as numbers.
 #[repr(C)]
-#[derive(Drop)]
+#[derive(Clone, Copy)]
 pub struct SheetPart {
     pub pump: u32,
     pub revolutions: u32,
@@ -51,7 +52,7 @@ pub struct SheetPart {
 
 // `bag::BagSheet`, its messages as numbers.
 #[repr(C)]
-#[derive(Drop)]
+#[derive(Clone, Copy)]
 pub struct Sheet {
     pub class: u32,
     pub parts: u32,
@@ -67,7 +68,7 @@ pub struct Sheet {
 // `emission::TestResult` beside the outcome, its weighted ends and verdicts as the result record has them. All is 0 where the outcome is a refusal, and 0 is no
 // verdict, so that no gas passes then.
 #[repr(C)]
-#[derive(Drop)]
+#[derive(Clone, Copy)]
 pub struct TestOutcome {
     pub outcome: Outcome,
     pub parts: Parts,

@@ -1,5 +1,6 @@
 // The tool for drafts of traces (02, M-112): mends what can be mended of a second's missing phase, and turns a draft with nothing open into a trace. Seconds count from 0 in
 // this file, and from 1 in the lists and where a refusal names one.
+#![tactic(auto)]
 ghost use Rattle.std.specs.Prelude.{◌≡◌, true, cond, ◌++◌, ◌+◌, ◌*◌, ◌≤◌, ◌<◌, length, set, drop};
 ghost use Rattle.house.specs.House.{speed_at};
 ghost use Rattle.house.specs.Written.{file_of};
@@ -10,14 +11,14 @@ ghost use Rattle.draft.specs.Gap.{Drafted, gap_of, gap_before, listed_by, list_f
 use refusal::{Judged, Refusal};
 
 // How many seconds were changed, and how many are left open.
-#[derive(Drop)]
+#[derive(Clone, Copy)]
 pub enum MendAnswer {
     Mended { changed: u32, left: u32 },
     Refused(Refusal),
 }
 
 // Of a second: where the gap ends that it is in, which is the second itself where it is in none, and whether that gap takes a phase.
-#[derive(Drop)]
+#[derive(Clone, Copy)]
 pub struct Gap {
     pub to: usize,
     pub taken: bool,

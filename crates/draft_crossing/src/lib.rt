@@ -1,4 +1,5 @@
 // What crosses the boundary of mending a draft: its answer in numbers alone. Beside a refusal both counts are 0.
+#![tactic(auto)]
 ghost use Rattle.std.specs.Prelude.{◌≡◌};
 ghost use Rattle.draft_crossing.specs.Mend.{mend_out};
 
@@ -7,7 +8,7 @@ use outcome::Outcome;
 use refusal::Judged;
 
 #[repr(C)]
-#[derive(Drop)]
+#[derive(Clone, Copy)]
 pub struct MendOutcome {
     pub outcome: Outcome,
     pub changed: u32,

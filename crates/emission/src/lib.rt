@@ -1,4 +1,5 @@
 // The emission sheet (01, Bag sheet and figures): a bag sheet becomes the full result of a test or its first refusal.
+#![tactic(auto)]
 ghost use Rattle.std.specs.Prelude.{◌≡◌, ◌≤◌};
 ghost use Rattle.bag.specs.Fields.{most_limit};
 ghost use Rattle.bag.specs.Sound.{RangedFuel, RangedLimits};
@@ -16,14 +17,14 @@ use sides::{Gases, Read, Sides, TestSides};
 use weigh::{Verdict, Weights};
 
 #[repr(C)]
-#[derive(Drop)]
+#[derive(Clone, Copy)]
 pub struct Parts {
     pub first: PartResult,
     pub second: PartResult,
     pub third: PartResult,
 }
 
-#[derive(Drop)]
+#[derive(Clone, Copy)]
 pub struct Verdicts {
     pub hc: Verdict,
     pub co: Verdict,
@@ -34,7 +35,7 @@ pub struct Verdicts {
 
 // Weighted results in micrograms/km, the fuel in microlitres per 100 km. A third part that the class does not have is all 0, and so is the fifth gas where the
 // test has none.
-#[derive(Drop)]
+#[derive(Clone, Copy)]
 pub struct TestResult {
     pub has_nmhc: bool,
     pub parts: Parts,
@@ -43,7 +44,7 @@ pub struct TestResult {
     pub fuel: Ends,
 }
 
-#[derive(Drop)]
+#[derive(Clone, Copy)]
 pub enum Answer {
     Result(TestResult),
     Refused(Refusal),

@@ -1,4 +1,5 @@
 // The arithmetic layer's worked examples and the table of refusals, as the compiled code gives them.
+#![tactic(auto)]
 use arith::Ends;
 use print::{end_line, number, text};
 use refusal::Refusal;

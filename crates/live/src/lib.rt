@@ -1,4 +1,5 @@
 // The live engine (02, M-110): it takes one second at a time, and gives the gear and clutch of a second at the call of the fifth after it, or at the end.
+#![tactic(auto)]
 ghost use Rattle.std.specs.Prelude.{◌≡◌, cond, [], ◌<◌, ltb};
 ghost use Rattle.live.specs.Live.{seen, former_after, mark_of, stays, longer, takes_over, reach, pending_after, stops_after, last_five, step, given_gear, due, given, packed, finish, waiting, fresh};
 
@@ -8,7 +9,7 @@ use vehicle::VehicleSheet;
 
 // The second received last, as corrections 1 to 5 have left it: its flags, the cap of the next second, and its gear after corrections 3, 4 and 5.
 #[repr(C)]
-#[derive(Drop)]
+#[derive(Clone, Copy)]
 pub struct Former {
     pub flags: u8,
     pub cap: u8,
@@ -20,7 +21,7 @@ pub struct Former {
 // Correction 6: the run received last, while it may still take the gear beside it: how many seconds it has, the gear on its left, and whether it has a
 // "no 1. gear" second. One of no seconds stands for a run that stays.
 #[repr(C)]
-#[derive(Drop)]
+#[derive(Clone, Copy)]
 pub struct Pending {
     pub count: u8,
     pub left: u8,
@@ -30,7 +31,7 @@ pub struct Pending {
 // What is kept: how many seconds were received, the last of them, the run that it is in, how many stop seconds in a row end with it, up to six, and the
 // gears, flags and speeds of the last five, the newest first. Their clutches are told when they are given.
 #[repr(C)]
-#[derive(Drop)]
+#[derive(Clone, Copy)]
 pub struct Live {
     pub received: u32,
     pub former: Former,
@@ -43,7 +44,7 @@ pub struct Live {
 
 // What is given: of so many seconds two bytes each, the gear and the clutch, and zeros behind them.
 #[repr(C)]
-#[derive(Drop)]
+#[derive(Clone, Copy)]
 pub struct Given {
     pub count: u32,
     pub bytes: [u8; 10],

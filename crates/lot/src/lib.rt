@@ -1,5 +1,6 @@
 // The records of a lot (02, M-105): what is kept of them, one record more, and the answer that it comes to. A record comes by value: the lent list itself is read
 // by lot_sheet alone.
+#![tactic(auto)]
 ghost use Rattle.std.specs.Prelude.{◌≡◌, true, ◌<◌};
 ghost use Rattle.arith.specs.Fitting.{Sized};
 ghost use Rattle.reading.specs.Gas.{NMHC};
@@ -15,7 +16,7 @@ use record::Record;
 use refusal::Refusal;
 use tally::{GasSheet, Tally};
 
-#[derive(Drop)]
+#[derive(Clone, Copy)]
 pub struct LotSheet {
     pub hc: GasSheet,
     pub co: GasSheet,
@@ -24,13 +25,13 @@ pub struct LotSheet {
     pub nmhc: GasSheet,
 }
 
-#[derive(Drop)]
+#[derive(Clone, Copy)]
 pub enum LotAnswer {
     Sheet(LotSheet),
     Refused(Refusal),
 }
 
-#[derive(Drop)]
+#[derive(Clone, Copy)]
 pub struct Tallies {
     pub hc: Tally,
     pub co: Tally,
@@ -40,7 +41,7 @@ pub struct Tallies {
 }
 
 // What is kept of the records from one on to the last: their tallies, or the index of the first that is faulty.
-#[derive(Drop)]
+#[derive(Clone, Copy)]
 pub enum Running {
     Counted(Tallies),
     Faulty(u32),

@@ -1,4 +1,5 @@
 // What crosses the boundary of the lot sheet: its answer in numbers alone. Beside a refusal all figures are 0.
+#![tactic(auto)]
 ghost use Rattle.std.specs.Prelude.{◌≡◌};
 ghost use Rattle.lot_crossing.specs.Lot.{no_gas, gas_out, refused_out, sheet_out, lot_out};
 
@@ -10,7 +11,7 @@ use tally::{GasSheet, Mean};
 
 // Where no record is counted there is no mean and no worst record, and both stand as 0.
 #[repr(C)]
-#[derive(Drop)]
+#[derive(Clone, Copy)]
 pub struct LotGas {
     pub passed: u32,
     pub failed: u32,
@@ -21,7 +22,7 @@ pub struct LotGas {
 }
 
 #[repr(C)]
-#[derive(Drop)]
+#[derive(Clone, Copy)]
 pub struct LotOutcome {
     pub outcome: Outcome,
     pub hc: LotGas,

@@ -1,4 +1,5 @@
 // What crosses the boundary in place of a refusal: its number and place, in numbers alone.
+#![tactic(auto)]
 ghost use Rattle.std.specs.Prelude.{◌≡◌};
 ghost use Rattle.outcome.specs.Outcome.{outcome_of};
 
@@ -6,7 +7,7 @@ use refusal::Judged;
 
 // A refusal's number and place, or zeros where all was accepted.
 #[repr(C)]
-#[derive(Drop)]
+#[derive(Clone, Copy)]
 pub struct Outcome {
     pub number: u32,
     pub at: u32,

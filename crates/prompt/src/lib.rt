@@ -1,5 +1,6 @@
 // Prompting the rider live (02, M-110): the live engine with its vehicle, and what it refuses. It is begun for a version and a vehicle, hears one second at a time, and is
 // ended.
+#![tactic(auto)]
 ghost use Rattle.std.specs.Prelude.{◌≡◌};
 ghost use Rattle.refusal.specs.declared.Judged.TheVariants.{Accepted};
 ghost use Rattle.vehicle.specs.Sheet.{judge_vehicle};
@@ -12,7 +13,7 @@ use vehicle::VehicleSheet;
 
 // What is kept: the version that the trace was named with, the vehicle and its shift speeds in whole tenths, and the seconds so far.
 #[repr(C)]
-#[derive(Drop)]
+#[derive(Clone, Copy)]
 pub struct Engine {
     pub version: u32,
     pub v: VehicleSheet,
@@ -22,7 +23,7 @@ pub struct Engine {
 
 // A second as the house file has it.
 #[repr(C)]
-#[derive(Drop)]
+#[derive(Clone, Copy)]
 pub struct Received {
     pub speed: u16,
     pub flags: u8,
@@ -30,7 +31,7 @@ pub struct Received {
 }
 
 // What the call of a second answers.
-#[derive(Drop)]
+#[derive(Clone, Copy)]
 pub struct Heard {
     pub judged: Judged,
     pub engine: Engine,
@@ -38,7 +39,7 @@ pub struct Heard {
 }
 
 // What the end answers.
-#[derive(Drop)]
+#[derive(Clone, Copy)]
 pub struct Ended {
     pub judged: Judged,
     pub given: Given,

@@ -1,4 +1,5 @@
 // What crosses the boundary of the live engine: the state that a bench keeps between two calls and hands back, and what a call answers, in numbers alone.
+#![tactic(auto)]
 ghost use Rattle.std.specs.Prelude.{◌≡◌};
 ghost use Rattle.prompt_crossing.specs.State.{no_engine, begin_out, second_out, end_out};
 
@@ -11,21 +12,21 @@ use vehicle::VehicleSheet;
 
 // The refusal that has ended it, zeros while it runs, and the engine.
 #[repr(C)]
-#[derive(Drop)]
+#[derive(Clone, Copy)]
 pub struct LiveState {
     pub outcome: Outcome,
     pub engine: Engine,
 }
 
 #[repr(C)]
-#[derive(Drop)]
+#[derive(Clone, Copy)]
 pub struct LiveAnswer {
     pub state: LiveState,
     pub given: Given,
 }
 
 #[repr(C)]
-#[derive(Drop)]
+#[derive(Clone, Copy)]
 pub struct LiveEnd {
     pub outcome: Outcome,
     pub given: Given,

@@ -1,4 +1,5 @@
 // The analyser's message and its worth in units of 1/256 ppm, as two ends, for every float that it can carry.
+#![tactic(auto)]
 ghost use Rattle.std.specs.Prelude.{◌≡◌, ◌^◌, ◌≤◌, ◌<◌, pos};
 ghost use Rattle.std.specs.Float.Ieee.{of_bits, to_bits};
 ghost use Rattle.std.specs.Float.{binary32};
@@ -8,7 +9,7 @@ ghost use Rattle.reading.specs.Units.{exact_value, times, outward, up_to_limit, 
 use arith::Ends;
 
 // What the analyser sends for one gas.
-#[derive(Drop)]
+#[derive(Clone, Copy)]
 pub enum Message {
     Ppm(f32),
     Percent(f32),
@@ -17,7 +18,7 @@ pub enum Message {
 }
 
 // The readings of one bag, or of its dilution air, as received. The cutter burns all hydrocarbons but methane: its reading is HC's behind it.
-#[derive(Drop)]
+#[derive(Clone, Copy)]
 pub struct Bag {
     pub hc: Message,
     pub co: Message,
@@ -27,7 +28,7 @@ pub struct Bag {
 }
 
 // What a message is worth: its ends in units, where it is usable.
-#[derive(Drop)]
+#[derive(Clone, Copy)]
 pub enum Worth {
     Units(Ends),
     Unusable,
@@ -53,7 +54,7 @@ fn bits_of(x: f32) -> u32
 
 // A float as IEEE 754 writes it: significand · 2^(exponent − 150), below zero where negative. The exponent 255 is left to what is infinite or not
 // a number.
-#[derive(Drop)]
+#[derive(Clone, Copy)]
 struct Binary {
     negative: bool,
     exponent: u64,

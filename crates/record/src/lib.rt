@@ -1,4 +1,5 @@
 // The result record (02, M-105): what a lot reads of the result of a test, in numbers alone. The boundary hands the same numbers to a bench.
+#![tactic(auto)]
 ghost use Rattle.std.specs.Prelude.{◌≡◌};
 ghost use Rattle.record.specs.Record.{verdict_number, verdict_numbers, flag_of, record_of};
 
@@ -8,7 +9,7 @@ use weigh::Verdict;
 
 // 1 pass, 2 fail, 3 undecided; 0 where there is no verdict.
 #[repr(C)]
-#[derive(Drop)]
+#[derive(Clone, Copy)]
 pub struct VerdictNumbers {
     pub hc: u32,
     pub co: u32,
@@ -19,7 +20,7 @@ pub struct VerdictNumbers {
 
 // The weighted ends in micrograms/km, and the verdicts. `has_nmhc` is 0 where the test has no fifth gas, whose ends then say nothing.
 #[repr(C)]
-#[derive(Drop)]
+#[derive(Clone, Copy)]
 pub struct Record {
     pub weighted: Gases,
     pub verdicts: VerdictNumbers,

@@ -1,11 +1,12 @@
 // The table of refusals (01, Refusal numbers; 16 and 17 by 02, M-103, 18 and 21 by M-105, 19 by M-108, 20 by M-109): one case for each row, in the table's order. A new row is a line of this enum, of
 // specs/Table.antt and of `entry_of`, with its line in each of the two lists of that function's proof.
+#![tactic(auto)]
 ghost use Rattle.std.specs.Prelude.{◌≡◌};
 ghost use Rattle.refusal.specs.Table.{◌given◌, on_side, entry_of, number_of, place_of};
 ghost use Rattle.refusal.specs.Judging.{checked};
 
 // Seconds and parts count from 1, the records of a lot from 0. A field has its number in the sheet's listing; the gases are 1 HC, 2 CO, 3 NOx, 4 CO2, 5 NMHC; the sides 1 bag, 2 air.
-#[derive(Drop)]
+#[derive(Clone, Copy)]
 pub enum Refusal {
     Header,
     Count,
@@ -32,7 +33,7 @@ pub enum Refusal {
 
 // Where a refusal points: `at` is the second, the part, the gear, the vehicle sheet's field or the record of a lot, `within` the field or the gas of a part, and
 // `side` the bag or the air. 0 stands where the table has nothing.
-#[derive(Drop)]
+#[derive(Clone, Copy)]
 pub struct Place {
     pub at: u32,
     pub within: u32,
@@ -40,7 +41,7 @@ pub struct Place {
 }
 
 // A row of the table, as it is printed.
-#[derive(Drop)]
+#[derive(Clone, Copy)]
 pub struct Entry {
     pub number: u32,
     pub place: Place,
@@ -99,7 +100,7 @@ pub fn place_of(refusal: Refusal) -> Place
 }
 
 // What a stage says of what it judges. The refusal is handed up as it is.
-#[derive(Drop)]
+#[derive(Clone, Copy)]
 pub enum Judged {
     Accepted,
     Refused(Refusal),

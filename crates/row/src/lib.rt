@@ -1,4 +1,5 @@
 // Corrections 1 to 5 of a row, in place (01, Corrections). They see the trace and no vehicle. The gear of second k is the row's byte 2 k.
+#![tactic(auto)]
 ghost use Rattle.std.specs.Prelude.{◌≡◌, ◌+◌, ◌-◌, min, max};
 ghost use Rattle.row.specs.Row.{HaveSeconds};
 ghost use Rattle.row.specs.Corrections.{capped, cap_after, cap_runs, not_first, ruled, pass_by};
@@ -45,7 +46,7 @@ pub fn cap_runs(trace: &[u8], row: &mut [u8], n: usize)
 }
 
 // Corrections 2 to 5: one loop carries all four, and only the gear of a second differs.
-#[derive(Drop)]
+#[derive(Clone, Copy)]
 pub enum Rule {
     NoFirst,
     NoShift,

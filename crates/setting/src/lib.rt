@@ -1,18 +1,19 @@
 // What a dynamometer is set to for a reference mass (02, M-103 and M-111; 001, Annex 3), by the rule that is printed under Annex 3's table. Nothing above sees the rule.
+#![tactic(auto)]
 ghost use Rattle.std.specs.Prelude.{◌≡◌, ◌≤◌};
 ghost use Rattle.setting.specs.Annex3.{rounded, setting_answer};
 
 use refusal::Refusal;
 
 // Equivalent inertia mass in kg, rolling resistance of the front wheel in 0.1 N, aero drag coefficient in 0.0001 N per km/h squared: a and b.
-#[derive(Drop)]
+#[derive(Clone, Copy)]
 pub struct Setting {
     pub inertia: u32,
     pub resistance: u32,
     pub drag: u32,
 }
 
-#[derive(Drop)]
+#[derive(Clone, Copy)]
 pub enum SettingAnswer {
     Set(Setting),
     Refused(Refusal),

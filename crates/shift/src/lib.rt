@@ -1,4 +1,5 @@
 // The shift speeds of a vehicle (01, Shift speeds): the ends of e to the power -x, and the two sides that a speed is held against.
+#![tactic(auto)]
 ghost use Rattle.std.specs.Prelude.{◌≡◌};
 ghost use Rattle.shift.specs.Exponential.{next_term, with_term, exponential_of, Exponent};
 ghost use Rattle.shift.specs.Fitting.{TermFits, SideFits};
@@ -61,7 +62,7 @@ fn side(part: Ends, span: u32, idle: u32) -> Ends
 
 // What a speed is held against: the side of the upshift 1 to 2, and that of all others; the lowest engine speed, in 0.001 per minute, for the downshift 2 to 1
 // of rule set 2.
-#[derive(Drop)]
+#[derive(Clone, Copy)]
 pub struct Shift {
     pub first: Ends,
     pub higher: Ends,

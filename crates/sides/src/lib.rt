@@ -1,4 +1,5 @@
 // The readings of a test (01, Bag sheet and figures; 02, M-104 and M-108): its messages become ends, or refusal 12.
+#![tactic(auto)]
 ghost use Rattle.std.specs.Prelude.{◌≡◌};
 ghost use Rattle.sides.specs.Gases.{nothing};
 ghost use Rattle.sides.specs.ReadIn.{read_gas, sides_from, read_part, read_third, read_in};
@@ -10,7 +11,7 @@ use refusal::Refusal;
 
 // The ends of each gas: readings, masses or rates.
 #[repr(C)]
-#[derive(Drop)]
+#[derive(Clone, Copy)]
 pub struct Gases {
     pub hc: Ends,
     pub co: Ends,
@@ -20,26 +21,26 @@ pub struct Gases {
 }
 
 // The readings of a part. As it is read, the fifth gas is the reading behind the cutter.
-#[derive(Drop)]
+#[derive(Clone, Copy)]
 pub struct Sides {
     pub bag: Gases,
     pub air: Gases,
 }
 
 // The ends of a gas, in the bag and in the air.
-#[derive(Drop)]
+#[derive(Clone, Copy)]
 pub struct GasSides {
     pub bag: Ends,
     pub air: Ends,
 }
 
-#[derive(Drop)]
+#[derive(Clone, Copy)]
 pub enum GasRead {
     Units(GasSides),
     Refused(Refusal),
 }
 
-#[derive(Drop)]
+#[derive(Clone, Copy)]
 pub enum PartRead {
     Units(Sides),
     Refused(Refusal),
@@ -154,7 +155,7 @@ pub fn read_part(part: u32, p: Part) -> PartRead
 }
 
 // The readings of a test: of each part, as ends in units of 1/256 ppm.
-#[derive(Drop)]
+#[derive(Clone, Copy)]
 pub struct TestSides {
     pub first: Sides,
     pub second: Sides,
@@ -162,7 +163,7 @@ pub struct TestSides {
 }
 
 // The readings of a test, or refusal 12.
-#[derive(Drop)]
+#[derive(Clone, Copy)]
 pub enum Read {
     Units(TestSides),
     Refused(Refusal),

@@ -1,4 +1,5 @@
 // The shift speeds of a vehicle in km/h (01, Shift speeds; 02, M-101), as a planner reads them: ends in 0.001 km/h.
+#![tactic(auto)]
 ghost use Rattle.std.specs.Prelude.{◌≡◌, ◌≤◌, ◌<◌};
 ghost use Rattle.arith.specs.Fitting.{Sized};
 ghost use Rattle.vehicle.specs.Sheet.{Sound};
@@ -10,7 +11,7 @@ use shift::Shift;
 use vehicle::VehicleSheet;
 
 // The first `count` of `upshift`, from the first gear up; the others are 0. `first` is the downshift 2 to 1, 0 under rule set 1.
-#[derive(Drop)]
+#[derive(Clone, Copy)]
 pub struct ShiftSpeeds {
     pub count: u32,
     pub upshift: [Ends; 7],

@@ -1,4 +1,5 @@
 // What crosses the boundary of a vehicle's shift speeds, in km/h and in whole tenths: numbers alone. Beside a refusal all of them are 0.
+#![tactic(auto)]
 ghost use Rattle.std.specs.Prelude.{◌≡◌};
 ghost use Rattle.speeds_crossing.specs.Speeds.{no_speeds, speeds_out};
 ghost use Rattle.speeds_crossing.specs.ShiftTenths.{no_tenths, seven_of, tenths_out};
@@ -10,7 +11,7 @@ use vehicle::VehicleSheet;
 
 // `speeds::ShiftSpeeds` beside the outcome.
 #[repr(C)]
-#[derive(Drop)]
+#[derive(Clone, Copy)]
 pub struct SpeedsOutcome {
     pub outcome: Outcome,
     pub count: u32,
@@ -49,7 +50,7 @@ pub fn speeds_out(vehicle: VehicleSheet) -> SpeedsOutcome
 
 // `tenths::Tenths` beside the outcome.
 #[repr(C)]
-#[derive(Drop)]
+#[derive(Clone, Copy)]
 pub struct TenthsOutcome {
     pub outcome: Outcome,
     pub count: u32,

@@ -1,1 +1,2 @@
 // No code: what the ends of the shift speeds have to do with the longer sums of the exponential.
+#![tactic(auto)]

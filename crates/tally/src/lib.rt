@@ -1,4 +1,5 @@
 // One gas over the records of a lot (02, M-105): what is kept of it, one record more, and what it comes to. All is numbers: the records stand in lot.
+#![tactic(auto)]
 ghost use Rattle.std.specs.Prelude.{◌≡◌, cond, ◌<◌};
 ghost use Rattle.std.specs.Int.Signed.{le_z};
 ghost use Rattle.arith.specs.Fitting.{Sized};
@@ -9,14 +10,14 @@ ghost use Rattle.tally.specs.Room.{Roomy};
 use arith::Ends;
 
 // The mean's ends in micrograms/km, rounded outward, and the index of the record with the greatest upper end. Of no record there is neither.
-#[derive(Drop)]
+#[derive(Clone, Copy)]
 pub enum Mean {
     Nothing,
     Of { ends: Ends, worst: u32 },
 }
 
 // A gas of the lot sheet: how many records passed, failed and were undecided, and the sums of their lower and of their upper ends.
-#[derive(Drop)]
+#[derive(Clone, Copy)]
 pub struct GasSheet {
     pub passed: u32,
     pub failed: u32,
@@ -27,7 +28,7 @@ pub struct GasSheet {
 
 // What is kept of one gas over some records: how many there are, how many of them passed and failed, the sums, and the index of the one with the greatest upper
 // end, which is `greatest`.
-#[derive(Drop)]
+#[derive(Clone, Copy)]
 pub struct Tally {
     pub count: u32,
     pub passed: u32,

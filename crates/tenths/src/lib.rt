@@ -1,4 +1,5 @@
 // The shift speeds of a vehicle in whole tenths of a km/h, the unit of a second's speed, and the gear of a speed by them (02, M-106).
+#![tactic(auto)]
 ghost use Rattle.std.specs.Prelude.{◌≡◌, cond, ◌≤◌, ◌<◌, pos, ◌≤ℤ◌};
 ghost use Rattle.arith.specs.Fitting.{Sized};
 ghost use Rattle.vehicle.specs.Sheet.{Sound};
@@ -13,7 +14,7 @@ use vehicle::VehicleSheet;
 
 // Of one shift speed: the least tenth above it, and the least that is not below it.
 #[repr(C)]
-#[derive(Drop)]
+#[derive(Clone, Copy)]
 pub struct LeastTenths {
     pub above: u16,
     pub not_below: u16,
@@ -22,7 +23,7 @@ pub struct LeastTenths {
 // Of each upshift, from the first gear up; out of reach past the last. `last` is the last of them once more, which is no downshift: read here, and not at a place that
 // the compiler does not know. `first` is the least tenth at or above the downshift 2 to 1, 0 under rule set 1.
 #[repr(C)]
-#[derive(Drop)]
+#[derive(Clone, Copy)]
 pub struct Tenths {
     pub above: [u16; 7],
     pub not_below: [u16; 7],

@@ -1,4 +1,5 @@
 // The vehicle sheet (01, Shift speeds; 02, M-101), judged: refusals 5, 6 and 7; and the lowest engine speed that drives.
+#![tactic(auto)]
 ghost use Rattle.std.specs.Prelude.{◌≡◌, ◌&&◌, ◌+◌, ◌-◌, ◌<◌, leb};
 ghost use Rattle.refusal.specs.Ranges.{within};
 ghost use Rattle.refusal.specs.Judging.{checked, judged_by};
@@ -11,7 +12,7 @@ use refusal::{Judged, Refusal};
 // Power in 0.1 kW, mass in kg, rated and idle speed per minute, of each gear ndv in 0.01 per minute per km/h, and the rule set: 1 for global technical
 // regulation No. 2, 2 for chapter 2W-II of document 004. Only the first `gears` of ndv are read. It crosses the C boundary as it is.
 #[repr(C)]
-#[derive(Drop)]
+#[derive(Clone, Copy)]
 pub struct VehicleSheet {
     pub power: u32,
     pub mass: u32,

@@ -1,5 +1,6 @@
 // The stages of a whole test (01, Bag sheet and figures), from its parts' rates to the weighted result, the fuel and the verdicts. Each is a definition of
 // specs/ and a function that gives it, from ends to ends.
+#![tactic(auto)]
 ghost use Rattle.std.specs.Prelude.{◌≡◌, ◌≤◌};
 ghost use Rattle.bag.specs.Fields.{most_limit};
 ghost use Rattle.weigh.specs.Test.{weights_of, weighted_of, fuel_of, verdict_of};
@@ -8,7 +9,7 @@ ghost use Rattle.weigh.specs.Ranges.{WeightedRanges, FuelRanges};
 use arith::{Ends, divided, scaled, whole};
 
 // The weights of a test's parts, in percent. A class of two parts has 0 for the third.
-#[derive(Drop)]
+#[derive(Clone, Copy)]
 pub struct Weights {
     pub first: u32,
     pub second: u32,
@@ -70,7 +71,7 @@ pub fn fuel(k: u32, f1: u32, f2: u32, f3: u32, density: u32, hc: Ends, co: Ends,
 }
 
 // A gas that the test does not have has no verdict.
-#[derive(Drop)]
+#[derive(Clone, Copy)]
 pub enum Verdict {
     Pass,
     Fail,
