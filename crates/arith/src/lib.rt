@@ -1,6 +1,7 @@
 // Ends of numbers: signed division rounded down and up, and what the stages of 01 do with pairs of ends. The gear sheet and the emission sheet
 // stand on these contracts alone.
 #![tactic(auto)]
+
 ghost use Rattle.std.specs.Prelude.{◌≡◌, pos, ◌<ℤ◌};
 ghost use Rattle.arith.specs.Rounding.{div_down, div_up};
 ghost use Rattle.arith.specs.Stages.{smaller, larger, exactly, sum_of, difference_of, scaled_by, hull_of, product_of, divided_by};
@@ -14,6 +15,7 @@ pub fn whole(n: u32) -> i64
 }
 
 // n / d rounded down.
+#[tactic(auto, unfolding(crate::specs::Rounding::div_down))]
 pub fn div_down(n: i64, d: i64) -> i64
     requires positive { pos 0 <ℤ d }
     ensures { result ≡ div_down n d }
@@ -22,6 +24,7 @@ pub fn div_down(n: i64, d: i64) -> i64
 }
 
 // n / d rounded up.
+#[tactic(auto, unfolding(crate::specs::Rounding::div_down, crate::specs::Rounding::div_up))]
 pub fn div_up(n: i64, d: i64) -> i64
     requires { pos 0 <ℤ d }
     ensures { result ≡ div_up n d }
@@ -49,12 +52,14 @@ pub struct Ends {
     pub upper: i64,
 }
 
+#[tactic(auto, unfolding(crate::specs::Stages::exactly))]
 pub fn exactly(n: i64) -> Ends
     ensures { result ≡ exactly n }
 {
     Ends { lower: n, upper: n }
 }
 
+#[tactic(auto, unfolding(crate::specs::Stages::sum_of))]
 pub fn sum(a: Ends, b: Ends) -> Ends
     requires { SumFits a b }
     ensures { result ≡ sum_of a b }
@@ -65,6 +70,7 @@ pub fn sum(a: Ends, b: Ends) -> Ends
     }
 }
 
+#[tactic(auto, unfolding(crate::specs::Stages::difference_of))]
 pub fn difference(a: Ends, b: Ends) -> Ends
     requires { DifferenceFits a b }
     ensures { result ≡ difference_of a b }
@@ -75,6 +81,7 @@ pub fn difference(a: Ends, b: Ends) -> Ends
     }
 }
 
+#[tactic(auto, unfolding(crate::specs::Stages::scaled_by))]
 pub fn scaled(k: i64, a: Ends) -> Ends
     requires { ScaledFits k a }
     ensures { result ≡ scaled_by k a }
@@ -87,6 +94,7 @@ pub fn scaled(k: i64, a: Ends) -> Ends
     }
 }
 
+#[tactic(auto, unfolding(crate::specs::Stages::hull_of))]
 fn hull(a: Ends, b: Ends) -> Ends
     ensures { result ≡ hull_of a b }
 {
@@ -96,6 +104,7 @@ fn hull(a: Ends, b: Ends) -> Ends
     }
 }
 
+#[tactic(auto, unfolding(crate::specs::Stages::product_of))]
 pub fn product(a: Ends, b: Ends) -> Ends
     requires { ProductFits a b }
     ensures { result ≡ product_of a b }
@@ -103,6 +112,7 @@ pub fn product(a: Ends, b: Ends) -> Ends
     hull(scaled(a.lower, b), scaled(a.upper, b))
 }
 
+#[tactic(auto, unfolding(crate::specs::Stages::divided_by))]
 pub fn divided(a: Ends, d: i64) -> Ends
     requires { pos 0 <ℤ d }
     ensures { result ≡ divided_by a d }
