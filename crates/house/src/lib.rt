@@ -1,5 +1,6 @@
 // The house file (01, Trace), byte by byte, and what its flags say. No other crate knows where a byte stands. Seconds count from 0 here.
 #![tactic(auto)]
+
 ghost use Rattle.std.specs.Prelude.{◌≡◌, cond, ◌++◌, ◌+◌, ◌<◌, ◌≤◌, eqb, length, drop};
 ghost use Rattle.house.specs.House.{sixteen_at, version_of, readable, allows, headed_by, headed, count_of, Lasts};
 ghost use Rattle.house.specs.House.{speed_at, flags_at, stop, stop_at, acceleration, deceleration, no_shift, no_first, marked, marked_in, marked_at, good_by, good_in, second_good};

@@ -1,5 +1,6 @@
 // The analyser's message and its worth in units of 1/256 ppm, as two ends, for every float that it can carry.
 #![tactic(auto)]
+
 ghost use Rattle.std.specs.Prelude.{◌≡◌, ◌^◌, ◌≤◌, ◌<◌, pos};
 ghost use Rattle.std.specs.Float.Ieee.{of_bits, to_bits};
 ghost use Rattle.std.specs.Float.{binary32};
@@ -63,6 +64,7 @@ struct Binary {
 
 // The pattern of minus zero is the least with a minus, and minus zero is not below zero. A denormal has the exponent's field 0: it lacks the leading
 // digit that the others have, and its exponent is 1.
+#[tactic(auto, unfolding(crate::specs::Pattern::binary_of))]
 fn binary_of(bits: u32) -> Binary
     ensures { result ≡ binary_of bits }
 {
@@ -85,6 +87,7 @@ fn binary_of(bits: u32) -> Binary
 }
 
 // The ends of a number with this whole part and, where it is not 0, a rest.
+#[tactic(auto, unfolding(arith::specs::Stages::exactly, crate::specs::Pattern::with_rest))]
 fn with_rest(whole: u64, rest: u64) -> Ends
     requires { whole < 2 ^ 52 }
     ensures { result ≡ with_rest whole rest }
@@ -128,6 +131,7 @@ fn in_units(x: f32, each: u64) -> Worth
     up_to_limit(outward(each * binary.significand, 150 - binary.exponent))
 }
 
+#[tactic(auto, unfolding(crate::specs::Units::units_of))]
 pub fn convert(message: Message) -> Worth
     ensures { result ≡ units_of message }
 {
@@ -151,6 +155,7 @@ pub fn is_fitted(message: Message) -> bool
 }
 
 // A reading behind the cutter may be missing, and is then no fault (02, M-108). No figure is made of the 0 that stands for it.
+#[tactic(auto, unfolding(crate::specs::Units::cutter_units))]
 pub fn convert_cutter(message: Message) -> Worth
     ensures { result ≡ cutter_units message }
 {

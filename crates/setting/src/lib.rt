@@ -1,5 +1,6 @@
 // What a dynamometer is set to for a reference mass (02, M-103 and M-111; 001, Annex 3), by the rule that is printed under Annex 3's table. Nothing above sees the rule.
 #![tactic(auto)]
+
 ghost use Rattle.std.specs.Prelude.{◌≡◌, ◌≤◌};
 ghost use Rattle.setting.specs.Annex3.{rounded, setting_answer};
 
@@ -21,6 +22,7 @@ pub enum SettingAnswer {
 
 // Hundredths to the nearest whole number, halves up. In whole numbers: 20 of the 41 drag coefficients that Annex 3 prints are exact halves, which halves to even would not
 // give, nor floats of 32 bits.
+#[tactic(auto, unfolding(crate::specs::Annex3::rounded))]
 fn rounded(hundredths: u32) -> u32
     requires { hundredths ≤ 1000000 }
     ensures { result ≡ rounded hundredths }
@@ -29,6 +31,7 @@ fn rounded(hundredths: u32) -> u32
 }
 
 // Refusal 16, or the setting of a mass in 0.1 kg.
+#[tactic(auto, unfolding(crate::specs::Annex3::inertia_of, crate::specs::Annex3::setting_answer))]
 pub fn setting_of(mass: u32) -> SettingAnswer
     ensures { result ≡ setting_answer mass }
 {

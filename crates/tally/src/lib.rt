@@ -1,5 +1,6 @@
 // One gas over the records of a lot (02, M-105): what is kept of it, one record more, and what it comes to. All is numbers: the records stand in lot.
 #![tactic(auto)]
+
 ghost use Rattle.std.specs.Prelude.{◌≡◌, cond, ◌<◌};
 ghost use Rattle.std.specs.Int.Signed.{le_z};
 ghost use Rattle.arith.specs.Fitting.{Sized};
@@ -44,6 +45,7 @@ fn is_beyond(n: i64) -> bool
     (n < -10000000000000) | (10000000000000 < n)
 }
 
+#[tactic(auto, unfolding(crate::specs::Entries::faulty_ends))]
 pub fn is_faulty_ends(e: Ends) -> bool
     ensures { result ≡ faulty_ends e }
 {
@@ -72,6 +74,7 @@ fn first_or(first: bool, at: u32, worst: u32) -> u32
 }
 
 // A gas of one record more, before the others. An equal upper end is the earlier record's.
+#[tactic(auto, unfolding(crate::specs::Kept::added_to))]
 pub fn added(at: u32, ends: Ends, verdict: u32, after: Tally) -> Tally
     requires { (Sized most_end ends) × (Roomy 255 after) }
     ensures { result ≡ added_to (entry at ends verdict) after }
@@ -87,6 +90,7 @@ pub fn added(at: u32, ends: Ends, verdict: u32, after: Tally) -> Tally
     }
 }
 
+#[tactic(auto, unfolding(crate::specs::Kept::no_tally, crate::specs::Kept::tally_of))]
 pub fn no_tally() -> Tally
     ensures { result ≡ no_tally }
 {
@@ -100,6 +104,7 @@ pub fn no_tally() -> Tally
     }
 }
 
+#[tactic(auto, unfolding(crate::specs::Kept::mean_by))]
 fn mean_by(t: Tally) -> Mean
     requires { Roomy 256 t }
     ensures { result ≡ mean_by t }
@@ -114,6 +119,7 @@ fn mean_by(t: Tally) -> Mean
     }
 }
 
+#[tactic(auto, unfolding(crate::specs::Kept::gas_sheet_by))]
 pub fn gas_sheet_by(t: Tally) -> GasSheet
     requires { Roomy 256 t }
     ensures { result ≡ gas_sheet_by t }

@@ -1,5 +1,6 @@
 // The vehicle sheet (01, Shift speeds; 02, M-101), judged: refusals 5, 6 and 7; and the lowest engine speed that drives.
 #![tactic(auto)]
+
 ghost use Rattle.std.specs.Prelude.{◌≡◌, ◌&&◌, ◌+◌, ◌-◌, ◌<◌, leb};
 ghost use Rattle.refusal.specs.Ranges.{within};
 ghost use Rattle.refusal.specs.Judging.{checked, judged_by};
@@ -92,6 +93,7 @@ fn judge_gears(falling: bool, ndv: [u32; 8], n: usize) -> Judged
 }
 
 // Refusals 5, 6 and 7.
+#[tactic(auto, unfolding(crate::specs::Sheet::judge_vehicle))]
 pub fn judge(v: VehicleSheet) -> Judged
     ensures { result ≡ judge_vehicle v }
 {
@@ -150,6 +152,7 @@ pub fn lowest_engine_speed(v: VehicleSheet) -> u64
 }
 
 // A speed in 0.1 km/h turns the engine slower than that in this gear.
+#[tactic(auto, unfolding(crate::specs::Engine::below_lowest))]
 pub fn below_lowest(v: VehicleSheet, gear: u8, speed: u32) -> bool
     ensures { result ≡ below_lowest v gear speed }
 {
