@@ -1,7 +1,7 @@
 -- The laws of ℤ that `lib.IntN` and `lib.Signed` lack: ring laws, orders under sums and products, and a test of two integers.
 use mathlib.Core.Path.{◌≡◌, sym, ap, ◌∙◌}
 use mathlib.Core.Logic.{◌⊎◌, inl, inr, ⊎_elim}
-use Prim.Native.Nat.{ℕ, zero, suc, ◌+◌, ◌*◌, ◌≤◌, ◌<◌}
+use Prim.Native.Nat.{ℕ, zero, suc, ◌+◌, ◌*◌, ◌≤◌}
 use native.Mathlib.Nat.{mul-le-mul_left, mul-lt-mul_of_pos_left}
 use native.Mathlib.Decide.{dec_le}
 use mathlib.Core.Bool.{not}

@@ -8,7 +8,7 @@ use Rattle.arith.specs.declared.Ends.{Ends}
 use Rattle.arith.specs.Rounding.{div_down}
 use Rattle.arith.specs.Stages.{smaller, larger, exactly, sum_of, difference_of, scaled_by, hull_of, product_of, divided_by}
 use Rattle.arith.specs.Fitting.{Sized, Narrow}
-use Rattle.arith.proofs.Parts.{up, zs, add_parts, sub_parts, mul-parts}
+use Rattle.arith.proofs.Parts.{zs, add_parts, sub_parts, mul-parts}
 use Rattle.arith.proofs.Ring.{mul-add, add-mono, mul_mono, mul-flip, ≤_trans}
 use Rattle.arith.proofs.Rounding.{down_lt, down-up, down-mono, up-min}
 use Rattle.arith.proofs.Enclosure.{smaller-le, larger-ge}

@@ -1,6 +1,7 @@
 // The bag sheet of a Type I test (01, Bag sheet and figures), judged: refusals 10 and 11. Each function below takes what the checks after
 // its own say, so that the checks stand last to first.
 #![tactic(auto)]
+
 ghost use Rattle.std.specs.Prelude.{◌≡◌, leb};
 ghost use Rattle.refusal.specs.declared.Refusal.TheVariants.{Value};
 ghost use Rattle.refusal.specs.Judging.{checked, checked_all};

@@ -1,6 +1,7 @@
 // What a bench written in C or Rust calls: include/ylhovesko.h declares it. A slice crosses as its pointer and then its length, and structs in numbers
 // alone. No function asks anything of what is lent to it beyond that it can be read, and the buffer written.
 #![tactic(auto)]
+
 ghost use Rattle.std.specs.Prelude.{◌≡◌, length};
 ghost use Rattle.trace.specs.Judging.{judge_pair};
 ghost use Rattle.writer.specs.Writer.{write_answer, write_buffer};

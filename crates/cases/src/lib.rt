@@ -7,6 +7,7 @@
 // A number is a whole number, a decimal or a fraction, with a minus before it and a unit after it if it has them. No contract says what is read; what is
 // printed of each case is compared.
 #![tactic(auto)]
+
 ghost use Rattle.std.specs.Prelude.{◌≡◌, ◌≤◌, ◌<◌, length};
 
 // A number as far as it is read: its digits, what they are over, the point or the stroke that was passed, its sign and the first letter of its unit.

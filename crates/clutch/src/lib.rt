@@ -1,5 +1,6 @@
 // The clutch of each second of a finished row (01, Gear of each second; 02, M-100).
 #![tactic(auto)]
+
 ghost use Rattle.std.specs.Prelude.{◌≡◌};
 ghost use Rattle.row.specs.Row.{HaveSeconds};
 ghost use Rattle.clutch.specs.Clutch.{clutch_of, clutch_by, with_clutch};

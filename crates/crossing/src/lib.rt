@@ -1,6 +1,7 @@
 // The bag sheet and the result of a test as they cross the boundary: a struct of another crate that is marked #[repr(C)] as it is; what holds an enum in a
 // form of its own here, in numbers.
 #![tactic(auto)]
+
 ghost use Rattle.std.specs.Prelude.{◌≡◌};
 ghost use Rattle.emission.specs.declared.Answer.TheVariants.{Result};
 ghost use Rattle.crossing.specs.Sheet.{message_of, bag_of, sheet_part_of, sheet_of, with_nothing, result_out};

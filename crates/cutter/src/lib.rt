@@ -1,5 +1,6 @@
 // Hydrocarbons without methane (02, M-108; 003, paragraph 4.3.1), from the reading of all hydrocarbons and the reading behind the cutter, which burns all but methane.
 #![tactic(auto)]
+
 ghost use Rattle.std.specs.Prelude.{◌≡◌};
 ghost use Rattle.bag.specs.Sound.{RangedEfficiencies};
 ghost use Rattle.cutter.specs.NonMethane.{fitted_in, cutter_of, efficient, cutter_good, non_methane_of, nmhc_of};

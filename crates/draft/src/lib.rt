@@ -1,6 +1,7 @@
 // The tool for drafts of traces (02, M-112): mends what can be mended of a second's missing phase, and turns a draft with nothing open into a trace. Seconds count from 0 in
 // this file, and from 1 in the lists and where a refusal names one.
 #![tactic(auto)]
+
 ghost use Rattle.std.specs.Prelude.{◌≡◌, true, cond, ◌++◌, ◌+◌, ◌*◌, ◌≤◌, ◌<◌, length, set, drop};
 ghost use Rattle.house.specs.House.{speed_at};
 ghost use Rattle.house.specs.Written.{file_of};

@@ -1,5 +1,6 @@
 // What crosses the boundary of mending a draft: its answer in numbers alone. Beside a refusal both counts are 0.
 #![tactic(auto)]
+
 ghost use Rattle.std.specs.Prelude.{◌≡◌};
 ghost use Rattle.draft_crossing.specs.Mend.{mend_out};
 

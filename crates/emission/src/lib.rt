@@ -1,5 +1,6 @@
 // The emission sheet (01, Bag sheet and figures): a bag sheet becomes the full result of a test or its first refusal.
 #![tactic(auto)]
+
 ghost use Rattle.std.specs.Prelude.{◌≡◌, ◌≤◌};
 ghost use Rattle.bag.specs.Fields.{most_limit};
 ghost use Rattle.bag.specs.Sound.{RangedFuel, RangedLimits};

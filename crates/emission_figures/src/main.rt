@@ -1,6 +1,7 @@
 // The emission sheet as the compiled code gives it, for the cases of the file `stdin`: 01's known figures that are run, whole tests with every figure of
 // their result, and each refusal of a bag sheet.
 #![tactic(auto)]
+
 mod output;
 mod sheet;
 

@@ -1,5 +1,6 @@
 // The arithmetic layer's worked examples and the table of refusals, as the compiled code gives them.
 #![tactic(auto)]
+
 use arith::Ends;
 use print::{end_line, number, text};
 use refusal::Refusal;

@@ -1,5 +1,6 @@
 // The gear sheet (01, Trace to Corrections): the gear and clutch of every second of a trace, for a vehicle, into a lent buffer.
 #![tactic(auto)]
+
 ghost use Rattle.std.specs.Prelude.{◌≡◌, ◌++◌, ◌*◌, ◌≤◌, length, get_or, drop};
 ghost use Rattle.row.specs.Row.{HaveSeconds};
 ghost use Rattle.vehicle.specs.Sheet.{Sound};

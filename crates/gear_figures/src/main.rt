@@ -1,6 +1,7 @@
 // The gear sheet as the compiled code gives it, for the cases of the file `stdin`: the examples of Annex 13 and of 004's Appendix 8, the rows of the cycle's parts, traces too close
 // to call, pairs of traces, the rows of the corrections, the versions of a trace, what is written, and what is given live.
 #![tactic(auto)]
+
 mod files;
 mod output;
 mod prompting;

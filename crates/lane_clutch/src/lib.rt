@@ -1,6 +1,7 @@
 // The clutch of all lanes (01, Gear of each second; 02, M-100), by the lowest engine speed of each lane's vehicle in whole tenths, from tables: in lines 9 to 16, for each gear from 1 to 8, the
 // least tenth at which the engine turns no slower. A lane's byte has the gear, and 128 more where the clutch is out.
 #![tactic(auto)]
+
 ghost use Rattle.std.specs.Prelude.{◌≡◌, true, cond, ◌+◌, ◌*◌, ◌<◌, ◌≤◌, eqb, length};
 ghost use Rattle.house.specs.House.{Lasts};
 ghost use Rattle.vehicle.specs.Sheet.{Sound};

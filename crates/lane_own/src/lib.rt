@@ -1,6 +1,7 @@
 // The gears of all lanes before corrections (01, Gear of each second), by the shift speeds of each lane's vehicle in whole tenths, from tables: in lines 0 to 6 the upshifts, in 7 the last of
 // them once more, in 8 the least tenth at or above the downshift 2 to 1.
 #![tactic(auto)]
+
 ghost use Rattle.std.specs.Prelude.{◌≡◌, cond, ◌+◌, ◌-◌, ◌*◌, ◌<◌, ◌≤◌, length};
 ghost use Rattle.house.specs.House.{Lasts, acceleration};
 ghost use Rattle.phase.specs.Phase.{gear_by};

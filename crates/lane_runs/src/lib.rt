@@ -1,6 +1,7 @@
 // Correction 6 of sixteen rows beside each other (01, Corrections), judged as the seconds come, as the live engine judges it (02, M-110). Of each lane's run that may still take the gear beside
 // it is kept: in line 0 how many seconds it has, in line 1 the gear on its left, and 0 there for a run that stays; line 2 has how many seconds take the gear of the second now judged.
 #![tactic(auto)]
+
 ghost use Rattle.std.specs.Prelude.{◌≡◌, false, cond, ◌+◌, ◌*◌, ◌<◌, ◌≤◌, leb, length};
 ghost use Rattle.house.specs.House.{Lasts};
 ghost use Rattle.lanes.specs.Lanes.{lane_at, line_by};

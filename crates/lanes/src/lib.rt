@@ -1,5 +1,6 @@
 // Corrections 1 to 5 of sixteen rows beside each other, of vehicles on one trace (01, Corrections). What lane j has in line k stands at 16 k + j; a line of the gears is a second.
 #![tactic(auto)]
+
 ghost use Rattle.std.specs.Prelude.{◌≡◌, ◌+◌, ◌*◌, ◌≤◌, length};
 ghost use Rattle.house.specs.House.{Lasts};
 ghost use Rattle.row.specs.declared.Rule.TheVariants.{NoFirst, NoShift, NoDrop, OneStep};

@@ -1,5 +1,6 @@
 // What is judged of a test once it is read: refusals 13, 14 and 19 (01, Refusal numbers; 02, M-108).
 #![tactic(auto)]
+
 ghost use Rattle.std.specs.Prelude.{◌≡◌, [], ◌∷◌};
 ghost use Rattle.refusal.specs.declared.Refusal.TheVariants.{Dilution, Humidity};
 ghost use Rattle.refusal.specs.Judging.{checked, checked_all};

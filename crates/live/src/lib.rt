@@ -1,5 +1,6 @@
 // The live engine (02, M-110): it takes one second at a time, and gives the gear and clutch of a second at the call of the fifth after it, or at the end.
 #![tactic(auto)]
+
 ghost use Rattle.std.specs.Prelude.{◌≡◌, cond, [], ◌<◌, ltb};
 ghost use Rattle.live.specs.Live.{seen, former_after, mark_of, stays, longer, takes_over, reach, pending_after, stops_after, last_five, step, given_gear, due, given, packed, finish, waiting, fresh};
 

@@ -1,6 +1,7 @@
 // The records of a lot (02, M-105): what is kept of them, one record more, and the answer that it comes to. A record comes by value: the lent list itself is read
 // by lot_sheet alone.
 #![tactic(auto)]
+
 ghost use Rattle.std.specs.Prelude.{◌≡◌, true, ◌<◌};
 ghost use Rattle.arith.specs.Fitting.{Sized};
 ghost use Rattle.reading.specs.Gas.{NMHC};

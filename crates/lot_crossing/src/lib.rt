@@ -1,5 +1,6 @@
 // What crosses the boundary of the lot sheet: its answer in numbers alone. Beside a refusal all figures are 0.
 #![tactic(auto)]
+
 ghost use Rattle.std.specs.Prelude.{◌≡◌};
 ghost use Rattle.lot_crossing.specs.Lot.{no_gas, gas_out, refused_out, sheet_out, lot_out};
 

@@ -1,5 +1,6 @@
 // What crosses the boundary in place of a refusal: its number and place, in numbers alone.
 #![tactic(auto)]
+
 ghost use Rattle.std.specs.Prelude.{◌≡◌};
 ghost use Rattle.outcome.specs.Outcome.{outcome_of};
 

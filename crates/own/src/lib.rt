@@ -1,5 +1,6 @@
 // The own gears of a trace's seconds (01, Gear of each second), by the vehicle's shift speeds in whole tenths, and refusal 9.
 #![tactic(auto)]
+
 ghost use Rattle.std.specs.Prelude.{◌≡◌, ◌≤◌, length};
 ghost use Rattle.house.specs.House.{Lasts};
 ghost use Rattle.vehicle.specs.Sheet.{Sound};

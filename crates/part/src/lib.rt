@@ -1,5 +1,6 @@
 // One part of a test (01, Bag sheet and figures): the stages in their order, the same for every gas but for NOx's Kh and for the fifth, whose ends come of two readings.
 #![tactic(auto)]
+
 ghost use Rattle.std.specs.Prelude.{◌≡◌};
 ghost use Rattle.part.specs.Part.{g_in, diluted, dry_enough, with_nmhc, staged_of, gas_mass, masses_of, volume_in, corrected_for, rates_of, mass_in, part_of};
 ghost use Rattle.arith.specs.Fitting.{Sized};

@@ -1,5 +1,6 @@
 // The gear of each second before corrections (01, Gear of each second). The gears outside stop come from the vehicle's crate; here is no vehicle.
 #![tactic(auto)]
+
 ghost use Rattle.std.specs.Prelude.{◌≡◌, ◌++◌, ◌*◌, ◌≤◌, length, get_or, drop};
 ghost use Rattle.house.specs.House.{Lasts};
 ghost use Rattle.row.specs.Row.{HaveSeconds};

@@ -1,5 +1,6 @@
 // One trace, many vehicles: the gear sheet of each vehicle by itself, worked out for sixteen vehicles beside each other.
 #![tactic(auto)]
+
 ghost use Rattle.std.specs.Prelude.{◌≡◌, cond, ◌+◌, ◌*◌, ◌<◌, ◌≤◌, eqb, length};
 ghost use Rattle.trace.specs.Judging.{judge_marks};
 ghost use Rattle.vehicle.specs.Sheet.{Sound};

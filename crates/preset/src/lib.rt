@@ -1,6 +1,7 @@
 // What a fuel brings to the bag sheet (001, paragraph 8): fields 9 and 10, and field 11 with the density of the test fuel, which is measured. 001 has no density of the fifth
 // gas: it stands as 0, which is refused (11), and has to be given.
 #![tactic(auto)]
+
 ghost use Rattle.std.specs.Prelude.{◌≡◌};
 ghost use Rattle.preset.specs.Preset.{preset_with, petrol_of, diesel_of};
 

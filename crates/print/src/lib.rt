@@ -1,6 +1,7 @@
 // What the programs print with: text and numbers on standard output. No contract can say what is written; what can be said of a number's
 // size is.
 #![tactic(auto)]
+
 ghost use Rattle.std.specs.Prelude.{◌≡◌, ◌≤◌, nat_abs, length};
 
 use libc::STDOUT_FILENO;

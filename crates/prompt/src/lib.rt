@@ -1,6 +1,7 @@
 // Prompting the rider live (02, M-110): the live engine with its vehicle, and what it refuses. It is begun for a version and a vehicle, hears one second at a time, and is
 // ended.
 #![tactic(auto)]
+
 ghost use Rattle.std.specs.Prelude.{◌≡◌};
 ghost use Rattle.refusal.specs.declared.Judged.TheVariants.{Accepted};
 ghost use Rattle.vehicle.specs.Sheet.{judge_vehicle};

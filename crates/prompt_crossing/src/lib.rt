@@ -1,5 +1,6 @@
 // What crosses the boundary of the live engine: the state that a bench keeps between two calls and hands back, and what a call answers, in numbers alone.
 #![tactic(auto)]
+
 ghost use Rattle.std.specs.Prelude.{◌≡◌};
 ghost use Rattle.prompt_crossing.specs.State.{no_engine, begin_out, second_out, end_out};
 

@@ -1,5 +1,6 @@
 // The ends of messages in units, bit pattern by bit pattern, as ppm and as percent, as the compiled code gives them.
 #![tactic(auto)]
+
 use libc::STDOUT_FILENO;
 use print::{end_line, text};
 use reading::{Message, Worth};

@@ -1,5 +1,6 @@
 // The result record (02, M-105): what a lot reads of the result of a test, in numbers alone. The boundary hands the same numbers to a bench.
 #![tactic(auto)]
+
 ghost use Rattle.std.specs.Prelude.{◌≡◌};
 ghost use Rattle.record.specs.Record.{verdict_number, verdict_numbers, flag_of, record_of};
 

@@ -1,6 +1,7 @@
 // The table of refusals (01, Refusal numbers; 16 and 17 by 02, M-103, 18 and 21 by M-105, 19 by M-108, 20 by M-109): one case for each row, in the table's order. A new row is a line of this enum, of
 // specs/Table.antt and of `entry_of`, with its line in each of the two lists of that function's proof.
 #![tactic(auto)]
+
 ghost use Rattle.std.specs.Prelude.{◌≡◌};
 ghost use Rattle.refusal.specs.Table.{◌given◌, on_side, entry_of, number_of, place_of};
 ghost use Rattle.refusal.specs.Judging.{checked};

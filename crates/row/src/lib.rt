@@ -1,5 +1,6 @@
 // Corrections 1 to 5 of a row, in place (01, Corrections). They see the trace and no vehicle. The gear of second k is the row's byte 2 k.
 #![tactic(auto)]
+
 ghost use Rattle.std.specs.Prelude.{◌≡◌, ◌+◌, ◌-◌, min, max};
 ghost use Rattle.row.specs.Row.{HaveSeconds};
 ghost use Rattle.row.specs.Corrections.{capped, cap_after, cap_runs, not_first, ruled, pass_by};

@@ -1,6 +1,7 @@
 // Correction 6, and the six corrections in order, in place (01, Corrections). They see the trace and no vehicle. The gear of second k is the row's
 // byte 2 k.
 #![tactic(auto)]
+
 ghost use Rattle.std.specs.Prelude.{◌≡◌, true, ◌+◌, ◌-◌, ◌*◌, ◌≤◌, ◌<◌, length};
 ghost use Rattle.house.specs.House.{Lasts};
 ghost use Rattle.row.specs.Row.{HaveSeconds};

@@ -4,7 +4,6 @@ use Prim.Native.Nat.{ℕ}
 use native.Mathlib.Omega.{arith}
 use Rattle.refusal.specs.declared.Refusal.{Refusal}
 use Rattle.setting.specs.declared.Setting.{Setting}
-use Rattle.setting.specs.declared.SettingAnswer.{SettingAnswer}
 use Rattle.setting.specs.declared.SettingAnswer.TheVariants.{Set, Refused}
 
 pub refused-no-set : {refusal : Refusal} {s : Setting} → Refused refusal ≡ Set s → ⊥

@@ -1,5 +1,6 @@
 // The shift speeds of a vehicle (01, Shift speeds): the ends of e to the power -x, and the two sides that a speed is held against.
 #![tactic(auto)]
+
 ghost use Rattle.std.specs.Prelude.{◌≡◌};
 ghost use Rattle.shift.specs.Exponential.{next_term, with_term, exponential_of, Exponent};
 ghost use Rattle.shift.specs.Fitting.{TermFits, SideFits};

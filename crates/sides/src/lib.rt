@@ -1,5 +1,6 @@
 // The readings of a test (01, Bag sheet and figures; 02, M-104 and M-108): its messages become ends, or refusal 12.
 #![tactic(auto)]
+
 ghost use Rattle.std.specs.Prelude.{◌≡◌};
 ghost use Rattle.sides.specs.Gases.{nothing};
 ghost use Rattle.sides.specs.ReadIn.{read_gas, sides_from, read_part, read_third, read_in};

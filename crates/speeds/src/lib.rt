@@ -1,5 +1,6 @@
 // The shift speeds of a vehicle in km/h (01, Shift speeds; 02, M-101), as a planner reads them: ends in 0.001 km/h.
 #![tactic(auto)]
+
 ghost use Rattle.std.specs.Prelude.{◌≡◌, ◌≤◌, ◌<◌};
 ghost use Rattle.arith.specs.Fitting.{Sized};
 ghost use Rattle.vehicle.specs.Sheet.{Sound};

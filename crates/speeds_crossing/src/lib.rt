@@ -1,5 +1,6 @@
 // What crosses the boundary of a vehicle's shift speeds, in km/h and in whole tenths: numbers alone. Beside a refusal all of them are 0.
 #![tactic(auto)]
+
 ghost use Rattle.std.specs.Prelude.{◌≡◌};
 ghost use Rattle.speeds_crossing.specs.Speeds.{no_speeds, speeds_out};
 ghost use Rattle.speeds_crossing.specs.ShiftTenths.{no_tenths, seven_of, tenths_out};

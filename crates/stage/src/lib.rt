@@ -1,6 +1,7 @@
 // The stages of a part of a test (01, Bag sheet and figures): from its numbers and its bags' ends to its rates. Each is a definition of specs/ and a
 // function that gives it, from ends to ends.
 #![tactic(auto)]
+
 ghost use Rattle.std.specs.Prelude.{◌≡◌, ◌<◌, ◌≤◌, ◌^◌, pos};
 ghost use Rattle.bag.specs.Fields.{d_range};
 ghost use Rattle.stage.specs.Part.{gtr, kelvin_of, volume_of, g_of, q_of, dilution_good, concentration_of, gas_volume_of, mass_of};

@@ -1,5 +1,6 @@
 // The shift speeds of a vehicle in whole tenths of a km/h, the unit of a second's speed, and the gear of a speed by them (02, M-106).
 #![tactic(auto)]
+
 ghost use Rattle.std.specs.Prelude.{◌≡◌, cond, ◌≤◌, ◌<◌, pos, ◌≤ℤ◌};
 ghost use Rattle.arith.specs.Fitting.{Sized};
 ghost use Rattle.vehicle.specs.Sheet.{Sound};

@@ -1,5 +1,6 @@
 // A trace of the house (01, Trace): judged whole, and chosen from a pair. Seconds count from 0 in this file, and from 1 where a refusal names one.
 #![tactic(auto)]
+
 ghost use Rattle.std.specs.Prelude.{◌≡◌, ◌≤◌, length};
 ghost use Rattle.refusal.specs.declared.Judged.TheVariants.{Accepted};
 ghost use Rattle.house.specs.House.{Lasts};

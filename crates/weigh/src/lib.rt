@@ -1,6 +1,7 @@
 // The stages of a whole test (01, Bag sheet and figures), from its parts' rates to the weighted result, the fuel and the verdicts. Each is a definition of
 // specs/ and a function that gives it, from ends to ends.
 #![tactic(auto)]
+
 ghost use Rattle.std.specs.Prelude.{◌≡◌, ◌≤◌};
 ghost use Rattle.bag.specs.Fields.{most_limit};
 ghost use Rattle.weigh.specs.Test.{weights_of, weighted_of, fuel_of, verdict_of};

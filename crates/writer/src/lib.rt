@@ -1,5 +1,6 @@
 // The writer of a trace of version 2 (02, M-109). The seconds are lent in one list, each its speed in 0.1 km/h and then its phase.
 #![tactic(auto)]
+
 ghost use Rattle.std.specs.Prelude.{◌≡◌, ◌++◌, ◌+◌, ◌*◌, ◌≤◌, length, drop};
 ghost use Rattle.house.specs.Written.{file_of};
 ghost use Rattle.writer.specs.Writer.{speed_in, phase_in, judge_seconds, Filling, with_seconds, write_answer, write_buffer};
