@@ -10,7 +10,7 @@ use record::Record;
 
 // Refusals 18 and 21, or the sheet of each gas.
 pub fn lot_sheet(records: &[Record]) -> LotAnswer
-    ensures { (result ≡ lot_answer records.now) × (records.now ≡ records.now) }
+    ensures { (result ≡ lot_answer records.now) × (records.exit.now ≡ records.entry.now) }
 {
     let mut i = lot::records_read(records.len());
     let mut running = lot::no_records();
