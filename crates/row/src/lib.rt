@@ -6,6 +6,7 @@ ghost use Rattle.row.specs.Row.{HaveSeconds};
 ghost use Rattle.row.specs.Corrections.{capped, cap_after, cap_runs, not_first, ruled, pass_by};
 
 // A deceleration second takes the smaller of its own gear and the cap.
+#[tactic(auto, unfolding(crate::specs::Corrections::capped))]
 pub fn capped(flags: u8, cap: u8, own: u8) -> u8
     ensures { result ≡ capped flags cap own }
 {
@@ -17,6 +18,7 @@ pub fn capped(flags: u8, cap: u8, own: u8) -> u8
 }
 
 // The cap of the next second. 255 stands for no cap: no byte is above it, so the smaller of it and a gear is the gear.
+#[tactic(auto, unfolding(crate::specs::Corrections::cap_after))]
 pub fn cap_after(flags: u8, cap: u8, own: u8) -> u8
     ensures { result ≡ cap_after flags cap own }
 {
@@ -84,6 +86,7 @@ fn one_step(before: u8, own: u8) -> u8
 }
 
 // The gear that a rule gives a second with the gear `own`, after one with the flags `former` and the gear `before`.
+#[tactic(auto, unfolding(crate::specs::Corrections::ruled))]
 pub fn ruled(rule: Rule, first: bool, former: u8, flags: u8, before: u8, own: u8) -> u8
     ensures { result ≡ ruled rule first former flags before own }
 {
