@@ -1,0 +1,15 @@
+-- A gear that is good: the search goes on behind it.
+use Rattle.std.proofs.Common.{◌∙◌, sym, arith}
+use Rattle.refusal.specs.declared.Judged.TheVariants.{Accepted, Refused}
+use Rattle.walk.proofs.Walk.{scan-on}
+use Rattle.vehicle.specs.Sheet.{gear_good, gear_refusal}
+use Rattle.vehicle.proofs.judge_gears.Goals as goal
+
+pub loop-i-preserved : goal.loop-i-preserved
+loop-i-preserved c =
+    let a = c.args in (
+      omega arith,
+      c.loop-i.invariant.1
+          ∙ scan-on (gear_good a.falling a.ndv) (λ i. Refused (gear_refusal a.falling i)) (λ i. Accepted) _ _ c.loop-i-test.true
+          (sym c.gear_good.ensures ∙ c.if-not-gear_good.false),
+    )
