@@ -1,5 +1,6 @@
 mod Scaling
 mod Pattern
+mod Numbers
 pub mod Usable
 mod Examples
 pub mod Gas

@@ -3,16 +3,18 @@
 use mathlib.Core.Path.{◌≡◌, refl, sym, ap, ◌∙◌, subst}
 use mathlib.Core.Logic.{inl, inr}
 use Prim.Native.Nat.{ℕ, zero, suc, ◌+◌, ◌-◌, ◌*◌, ◌%◌, ◌/◌, ◌^◌, ◌≤◌, ◌<◌}
-use native.Mathlib.Nat.{le_trans, le_antisymm, le_of_lt, add_comm, zero-mul, eq-or-lt_of_le, mul_assoc, mod-lt, mul-pos, mul-le-mul}
+use native.Mathlib.Nat.{le_trans, lt_of_le_of_lt, mul-le-mul_left, mul-lt-mul_of_pos_right, le_antisymm, le_of_lt, add_comm, zero-mul, eq-or-lt_of_le, mul_assoc, mod-lt, mul-pos, mul-le-mul}
 use native.Mathlib.Omega.{arith}
 use mathlib.Core.Bool.{Bool, true, false, cond}
 use lib.IntN.{pos}
-use lib.Dec.{leb, ltb, eqb, eqb-suc-zero, lit≤}
+use lib.Dec.{T, leb, ltb, eqb, eqb-suc-zero, lit≤}
 use lib.Pow.{pow-add, pow_pos, pow_mono}
-use lib.Ieee.{Float, inf, nan, binary32, odd, of_fields, of_bits}
+use lib.Ieee.{Float, inf, nan, binary32, odd, fits, of_fields, of_bits, to_bits}
+use lib.Ieee.Bits.{of_bits-to_bits, to_bits-lt}
 use lib.Ieee.Exact.{HasValue, odd_sign}
 use borrow.Author.Tests.{ltb-true, ltb-false, leb-true, le-leb, eqb-true, eq-eqb, ne_eqb}
 use Rattle.reading.specs.declared.Binary.{Binary}
+use Rattle.reading.specs.declared.Worth.{Worth}
 use Rattle.reading.specs.declared.Worth.TheVariants.{Unusable}
 use Rattle.reading.specs.Pattern.{exponent_field, trailing, apart, binary_of, over}
 use Rattle.reading.specs.Units.{Exact, none, exact_value, times, outward, up_to_limit, rounded}
@@ -181,3 +183,25 @@ module _ (bits : ℕ) where
       same =
           outward-same (k * b.significand) (2 ^ (150 - b.exponent)) (k * size b) (2 ^ 149) (pow_pos (150 - b.exponent)) (pow_pos 149)
           (cross-times k b.significand (2 ^ (150 - b.exponent)) (size b) (2 ^ 149) cross)
+
+-- ---- the same of a float whose pattern is taken, as `in_units` does
+module _ (k : ℕ) (x : Float) (held : T (fits binary32 x)) where
+  abbrev own : Binary
+  own = binary_of (to_bits binary32 x)
+
+  worth : (z : Worth) → z ≡ rounded (times (pos k) (exact_value (of_bits binary32 (to_bits binary32 x)))) → rounded (times (pos k) (exact_value x)) ≡ z
+  worth z e = ap (λ (y : Float). rounded (times (pos k) (exact_value y))) (sym (of_bits-to_bits binary32 x held)) ∙ sym e
+
+  pub below_zero_is : 256 ≤ k → own.negative ≡ true → rounded (times (pos k) (exact_value x)) ≡ Unusable
+  below_zero_is K n = worth Unusable (negative (to_bits binary32 x) k K (to_bits-lt binary32 x held) n)
+
+  pub too_large_is : 256 ≤ k → own.negative ≡ false → 144 ≤ own.exponent → rounded (times (pos k) (exact_value x)) ≡ Unusable
+  too_large_is K n h = worth Unusable (too_large (to_bits binary32 x) k K n h)
+
+  pub in_range_is : own.negative ≡ false → own.exponent < 144
+      → rounded (times (pos k) (exact_value x)) ≡ up_to_limit (outward (over (k * own.significand) (150 - own.exponent)))
+  in_range_is n h = worth _ (in-range (to_bits binary32 x) k n h)
+
+-- a product that `in_units` hands on
+pub product_below : (k bits : ℕ) → k < 2 ^ 28 → k * (binary_of bits).significand < 2 ^ 52
+product_below k bits h = lt_of_le_of_lt (mul-le-mul_left k (le_of_lt (reads bits).few)) (mul-lt-mul_of_pos_right h (pow_pos 24))

@@ -2,26 +2,27 @@
 -- Assumes nothing.
 use mathlib.Core.Path.{◌≡◌, refl, sym, ap, ◌∙◌, subst}
 use mathlib.Core.Logic.{inl, inr}
-use Prim.Native.Nat.{ℕ, zero, suc, zero-le, ◌+◌, ◌*◌, ◌≤◌, ◌<◌}
-use native.Mathlib.Nat.{lt_irrefl, eq-zero-or-pos, zero-mul, mul-one, mul_comm, mul_assoc, mul-pos, mul-le-mul}
+use Prim.Native.Nat.{ℕ, zero, suc, zero-le, ◌+◌, ◌*◌, ◌/◌, ◌%◌, ◌^◌, ◌≤◌, ◌<◌}
+use native.Mathlib.Nat.{lt_irrefl, lt_of_lt_of_le, eq-zero-or-pos, zero-mul, one-mul, div-add-mod', mod-lt, mul-one, mul_comm, mul_assoc, mul-pos, mul-le-mul}
 use native.Mathlib.Omega.{arith}
 use mathlib.Core.Bool.{Bool, true, false, cond, true≢false}
-use lib.IntN.{ℤ, pos, negsuc, neg_ℤ, ◌+ℤ◌, ◌-ℤ◌, ◌*ℤ◌}
+use lib.IntN.{ℤ, pos, negsuc, neg_ℤ, ◌*ℤ◌}
 use lib.Signed.{◌≤ℤ◌, ◌<ℤ◌, lt_z, le_z, le_z_yes, clash_ℤ}
-use lib.Dec.{T, eqb}
+use lib.Dec.{T, eqb, lit<, lit≤}
+use lib.Pow.{pow_pos, pow_mono, shl_exact}
 use borrow.Author.Tests.{le-ltb, eqb-true, eqb-false}
 use lib.Ieee.{Float, nan, inf, fin, up, down}
 use lib.Ieee.Fits.{down_pos}
 use lib.Ieee.Bits.{is_true}
 use lib.Ieee.Exact.{HasValue}
 use Rattle.arith.specs.declared.Ends.{Ends}
-use Rattle.arith.specs.Rounding.{div_down, div_up}
+use Rattle.arith.specs.Rounding.{div_up}
 use Rattle.arith.specs.Fraction.{Fraction, decimal}
 use Rattle.arith.proofs.Parts.{zs, sub_parts, mul-parts}
 use Rattle.arith.proofs.Ring.{mul-cancel-<, mul-add, mul-sub}
 use Rattle.arith.proofs.Rounding.{down-unique, down-same, up-ge, up-unique, up-whole, up_same, same_ends}
 use Rattle.reading.specs.Units.{value, exact_value, times, outward, most_units, up_to_limit, rounded}
-use Rattle.reading.specs.Pattern.{with_rest}
+use Rattle.reading.specs.Pattern.{over, with_rest}
 use Rattle.reading.specs.declared.Worth.TheVariants.{Units, Unusable}
 
 abbrev pub ratio : ℕ → ℕ → Fraction
@@ -50,6 +51,22 @@ rest-is n d q r D e h =
       where
         some-rest : (r ≡ 0 → ⊥) → q * d < n
         some-rest f = omega arith
+
+-- places past the word: the whole product is the rest
+pub all_rest : (z s : ℕ) → z < 2 ^ 52 → 64 ≤ s → outward (over z s) ≡ with_rest 0 z
+all_rest z s h l = sym (rest-is z (2 ^ s) 0 z (pow_pos s) (omega arith) (lt_of_lt_of_le (lt_of_lt_of_le h (lit≤ tt)) (pow_mono l)))
+
+-- places within the word: what one shifted by them leaves, whole and rest
+pub shifted : (z s : ℕ) → s < 64 → outward (over z s) ≡ with_rest (z / (1 * 2 ^ s % 2 ^ 64)) (z % (1 * 2 ^ s % 2 ^ 64))
+shifted z s h = by (1 * 2 ^ s % 2 ^ 64) (shl_exact 1 s 64 (lit< tt) h' ∙ one-mul (2 ^ s))
+  where
+    h' : 1 + s ≤ 64
+    h' = omega (arith, h)
+
+    by : (p : ℕ) → p ≡ 2 ^ s → outward (over z s) ≡ with_rest (z / p) (z % p)
+    by p e =
+        let positive : 0 < p = subst (λ (x : ℕ). 0 < x) (sym e) (pow_pos s) in
+        sym (rest-is z p (z / p) (z % p) positive (div-add-mod' z p) (mod-lt z positive) ∙ ap (λ (p : ℕ). outward (ratio z p)) e)
 
 -- ---- the definition at n / d, not below zero
 plus : (k n d : ℕ) → rounded (times (pos k) (value (ratio n d))) ≡ up_to_limit (outward (ratio (k * n) d))

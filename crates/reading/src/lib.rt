@@ -47,6 +47,7 @@ fn up_to_limit(ends: Ends) -> Worth
 }
 
 // The pattern of a float: the inverse of `float_of`. Of the many patterns that are not a number it gives the one that `to_bits` names.
+#[tactic(auto, using(crate::proofs::Numbers::is_number, crate::proofs::Numbers::pattern_of_nan))]
 fn bits_of(x: f32) -> u32
     ensures { result ≡ to_bits binary32 x }
 {
@@ -103,6 +104,7 @@ fn with_rest(whole: u64, rest: u64) -> Ends
 }
 
 // product / 2^places, rounded down and up. A shift by the word's width or more has no meaning, and there all is rest.
+#[tactic(auto, using(crate::proofs::Scaling::all_rest, crate::proofs::Scaling::shifted))]
 fn outward(product: u64, places: u64) -> Ends
     requires { product < 2 ^ 52 }
     ensures { result ≡ outward (over product places) }
@@ -116,6 +118,7 @@ fn outward(product: u64, places: u64) -> Ends
 
 // A float's ends in units, `each` of them to one ppm or percent, in whole numbers from its bits. From the exponent 144 on, which is 131,072, a float is
 // over the limit in either measure, infinite or not a number.
+#[tactic(auto, using(crate::proofs::Pattern::below_zero_is, crate::proofs::Pattern::too_large_is, crate::proofs::Pattern::in_range_is, crate::proofs::Pattern::product_below))]
 fn in_units(x: f32, each: u64) -> Worth
     requires fact_1 { 256 ≤ each }
     requires fact_2 { each < 2 ^ 28 }
@@ -168,6 +171,7 @@ pub fn convert_cutter(message: Message) -> Worth
 
 // The float of a bit pattern, for messages that arrive as words. Each of the patterns that are not a number gives the one float that is
 // not a number, where `f32::from_bits` has no answer.
+#[tactic(auto, using(crate::proofs::Numbers::number_up_to_infinity, crate::proofs::Numbers::nan_above_infinity))]
 pub fn float_of(bits: u32) -> f32
     ensures { result ≡ of_bits binary32 bits }
 {
