@@ -155,6 +155,7 @@ fn pumped(part: u32, pump: u32, revolutions: u32, rest: Judged) -> Judged
 }
 
 // Fields 10 to 13, as part 0.
+#[tactic(auto, unfolding(crate::specs::Sheet::test_checks))]
 fn test_values(
     triple: Triple,
     fuel: Fuel,
@@ -182,6 +183,7 @@ fn test_values(
 }
 
 // Fields 1 to 9 of a part.
+#[tactic(auto, unfolding(crate::specs::Sheet::value_checks))]
 fn part_values(part: u32, p: Part, rest: Judged) -> Judged
     ensures { result ≡ checked_all (value_checks part p) rest }
 {
@@ -213,6 +215,7 @@ fn third_values(class: u32, third: Part, rest: Judged) -> Judged
 }
 
 // The first refusal of a sheet, of 10 and 11.
+#[tactic(auto, unfolding(crate::specs::Sheet::sheet_checks))]
 pub fn judge(sheet: BagSheet) -> Judged
     ensures { result ≡ judge_sheet sheet }
 {
