@@ -12,6 +12,7 @@ use arith::Ends;
 use vehicle::VehicleSheet;
 
 // The k-th term from the one before it.
+#[tactic(auto, unfolding(crate::specs::Exponential::next_term))]
 fn next_term(over: u32, under: u32, t: Ends, k: u32) -> Ends
     requires { TermFits over under t k }
     ensures { result ≡ next_term over under t k }
@@ -21,6 +22,7 @@ fn next_term(over: u32, under: u32, t: Ends, k: u32) -> Ends
 }
 
 // The sum with the k-th term.
+#[tactic(auto, unfolding(crate::specs::Exponential::with_term))]
 fn with_term(sum: Ends, t: Ends, k: u32) -> Ends
     requires { (SumFits sum t) × (DifferenceFits sum t) }
     ensures { result ≡ with_term sum t k }
@@ -31,6 +33,7 @@ fn with_term(sum: Ends, t: Ends, k: u32) -> Ends
     arith::difference(sum, t)
 }
 
+#[tactic(auto, unfolding(crate::specs::Exponential::exponential_of, crate::specs::Exponential::sum_to, crate::specs::Exponential::term_of))]
 fn exponential(over: u32, under: u32) -> Ends
     requires { Exponent over under }
     ensures { result ≡ exponential_of over under }
@@ -52,6 +55,7 @@ fn exponential(over: u32, under: u32) -> Ends
 }
 
 // 10,000 x 2^32 times the engine speed at which gears are shifted.
+#[tactic(auto, unfolding(crate::specs::Speeds::side_of))]
 fn side(part: Ends, span: u32, idle: u32) -> Ends
     requires { SideFits part span idle }
     ensures { result ≡ side_of part span idle }
@@ -73,6 +77,7 @@ pub struct Shift {
     pub rules: u32,
 }
 
+#[tactic(auto, unfolding(crate::specs::Speeds::first_side, crate::specs::Speeds::higher_side, crate::specs::Speeds::shift_of))]
 pub fn shift_of(v: VehicleSheet) -> Shift
     requires { Sound v }
     ensures { result ≡ shift_of v }
