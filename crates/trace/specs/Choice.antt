@@ -12,7 +12,7 @@ view lent = (lent.ref_ptr, lent.now)
 -- accepted: the one that the switch names; refused: the place of the normal one, and no bytes
 abbrev pub chosen_view : Judged → Bool → Bor (List ℕ) → Bor (List ℕ) → (ℕ × ℕ) × List ℕ
 chosen_view Accepted switch normal reduced = cond switch (view reduced) (view normal)
-chosen_view (Refused refusal) switch normal reduced = (normal.ptr, [])
+chosen_view (Refused refusal) switch normal reduced = (normal.ref_ptr, [])
 
 -- what is handed back, for accepted and refused pairs; and that an accepted pair's is the lent reference itself
 pub record Chosen (normal reduced : Bor (List ℕ)) (switch : Bool) (lent : Bor (List ℕ)) : Type 0 where

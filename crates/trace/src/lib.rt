@@ -44,6 +44,7 @@ pub fn judge_file(file: &[u8], headed: bool) -> Judged
 }
 
 // Refusals 1 to 4.
+#[tactic(auto, unfolding(crate::specs::Judging::judge_trace))]
 pub fn judge(trace: &[u8]) -> Judged
     ensures { result ≡ judge_trace trace.now }
 {
@@ -58,6 +59,7 @@ pub fn judge(trace: &[u8]) -> Judged
 }
 
 // Refusals 1 to 4 of the normal trace, then of the reduced one, then 15.
+#[tactic(auto, unfolding(crate::specs::Judging::judge_pair))]
 pub fn judge_pair(normal: &[u8], reduced: &[u8]) -> Judged
     ensures { result ≡ judge_pair normal.now reduced.now }
 {
