@@ -20,4 +20,4 @@ chosen_of (Refused refusal) switch = 0
 
 -- the slice that such a number names: for 0 the place of the normal one, and no bytes
 abbrev pub lent_by : ℕ → Bor (List ℕ) → Bor (List ℕ) → (ℕ × ℕ) × List ℕ
-lent_by chosen normal reduced = cond (eqb chosen 0) (normal.ptr, []) (cond (eqb chosen 2) (view reduced) (view normal))
+lent_by chosen normal reduced = cond (eqb chosen 0) (normal.ref_ptr, []) (cond (eqb chosen 2) (view reduced) (view normal))
