@@ -20,6 +20,7 @@ pub struct ShiftSpeeds {
 }
 
 // The engine speed in 1/10,000 per minute, and ten times that over ndv.
+#[tactic(auto, unfolding(crate::specs::Upshifts::speed_of))]
 fn speed(side: Ends, ndv: u32) -> Ends
     requires { (Sized largest_side side) × (1 ≤ ndv) }
     ensures { result ≡ speed_of side ndv }
@@ -28,6 +29,7 @@ fn speed(side: Ends, ndv: u32) -> Ends
     arith::divided(arith::scaled(10, engine), arith::whole(ndv))
 }
 
+#[tactic(auto, unfolding(crate::specs::Upshifts::upshift_at))]
 fn upshift(s: Shift, i: usize) -> Ends
     requires { (Geared s) × (i < 7) }
     ensures { result ≡ upshift_at s i }
@@ -39,6 +41,7 @@ fn upshift(s: Shift, i: usize) -> Ends
     arith::exactly(0)
 }
 
+#[tactic(auto, unfolding(crate::specs::Upshifts::to_first))]
 fn to_first(s: Shift) -> Ends
     requires { Geared s }
     ensures { result ≡ to_first s }
@@ -53,6 +56,7 @@ fn to_first(s: Shift) -> Ends
     arith::exactly(0)
 }
 
+#[tactic(auto, unfolding(crate::specs::Upshifts::shift_speeds_of))]
 fn shift_speeds(s: Shift) -> ShiftSpeeds
     requires { Geared s }
     ensures { result ≡ shift_speeds_of s }
