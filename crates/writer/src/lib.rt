@@ -24,6 +24,7 @@ fn judge_seconds(seconds: &[u16], n: usize) -> Judged
 }
 
 // The n seconds behind the head.
+#[tactic(auto, unfolding(house::specs::Written::seconds_to))]
 fn put_seconds(seconds: &[u16], buffer: &mut [u8], n: usize)
     requires { Filling seconds.now (length buffer.old) n }
     ensures { buffer.new ≡ with_seconds seconds.now n buffer.old }
