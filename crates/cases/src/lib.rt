@@ -8,7 +8,9 @@
 // printed of each case is compared.
 #![tactic(auto)]
 
-ghost use Rattle.std.specs.Prelude.{◌≡◌, ◌≤◌, ◌<◌, length};
+ghost use Rattle.std.specs.Prelude.{◌≡◌, ◌≤◌, ◌<◌, length, IfOk};
+
+use std::io;
 
 // A number as far as it is read: its digits, what they are over, the point or the stroke that was passed, its sign and the first letter of its unit.
 #[derive(Clone, Copy)]
@@ -168,23 +170,28 @@ fn line_end(text: &[u8], at: usize) -> usize
 }
 
 // How long the text of a case is: 0 of a line that is none.
-fn read_changes(line: &[u8], lasting: &mut [u64; 802], own: &mut [u64; 802]) -> usize
-    ensures { result ≤ length line.now }
+fn read_changes(
+    rt: &impl Print,
+    line: &[u8],
+    lasting: &mut [u64; 802],
+    own: &mut [u64; 802],
+) -> io::Result<usize>
+    ensures { IfOk result (λ n. n ≤ length line.now) }
 {
     let end = print::position(line, 0, b'#');
     let said = &line[0..end];
     let bar = print::position(said, 0, b'|');
     if bar == 0 {
         change(said, lasting);
-        return 0;
+        return Ok(0);
     }
     if bar == end {
-        return 0;
+        return Ok(0);
     }
     *own = *lasting;
     change(&said[bar..], own);
-    print::text(&said[0..bar]);
-    bar
+    print::text(rt, &said[0..bar])?;
+    Ok(bar)
 }
 
 // Where the text of a case ends, and where its line does. The text of a line that is none ends where it begins.
@@ -195,15 +202,22 @@ pub struct Line {
 }
 
 // The line at a place: the numbers of a case come to be its own.
-pub fn read_line(text: &[u8], at: usize, lasting: &mut [u64; 802], own: &mut [u64; 802]) -> Line
+pub fn read_line(
+    rt: &impl Print,
+    text: &[u8],
+    at: usize,
+    lasting: &mut [u64; 802],
+    own: &mut [u64; 802],
+) -> io::Result<Line>
     requires { at < length text.now }
-    ensures { (at ≤ result.said) × (result.said ≤ length text.now) × (at < result.end) × (result.end ≤ length text.now) }
+    ensures { IfOk result (λ l. (at ≤ l.said) × (l.said ≤ length text.now) × (at < l.end) × (l.end ≤ length text.now)) }
 {
     let end = line_end(text, at);
-    Line {
-        said: at + read_changes(&text[at..end], lasting, own),
+    let said = read_changes(rt, &text[at..end], lasting, own)?;
+    Ok(Line {
+        said: at + said,
         end,
-    }
+    })
 }
 
 // The digits at place 100 x block + place.

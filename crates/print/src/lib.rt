@@ -4,16 +4,15 @@
 
 ghost use Rattle.std.specs.Prelude.{◌≡◌, ◌≤◌, nat_abs, length};
 
-use libc::STDOUT_FILENO;
+use std::io;
 
-pub fn text(bytes: &[u8]) {
-    io::write_all(STDOUT_FILENO, bytes);
+pub fn text(rt: &impl Print, bytes: &[u8]) -> io::Result<()> {
+    rt.write_all(bytes)
 }
 
 // A number, and a space before it.
-pub fn number(n: u64) {
-    text(b" ");
-    io::print_decimal(STDOUT_FILENO, n);
+pub fn number(rt: &impl Print, n: u64) -> io::Result<()> {
+    print!(rt; " {n}")
 }
 
 // How far x lies from 0.
@@ -28,34 +27,30 @@ pub fn magnitude(x: i64) -> u64
 }
 
 // A number of either sign.
-fn whole(x: i64) {
-    if x < 0 {
-        text(b"-");
-    }
-    io::print_decimal(STDOUT_FILENO, magnitude(x));
+fn whole(rt: &impl Print, x: i64) -> io::Result<()> {
+    rt.print(x)
 }
 
 // A signed number, and a space before it.
-pub fn signed(x: i64) {
-    text(b" ");
-    whole(x);
+pub fn signed(rt: &impl Print, x: i64) -> io::Result<()> {
+    print!(rt; " {x}")
 }
 
 // A number of tenths, with its point and a space before it.
-pub fn tenths(n: u64) {
-    number(n / 10);
-    text(b".");
-    io::print_decimal(STDOUT_FILENO, n % 10);
+pub fn tenths(rt: &impl Print, n: u64) -> io::Result<()> {
+    number(rt, n / 10)?;
+    text(rt, b".")?;
+    rt.print(n % 10)
 }
 
 // The two ends of a number.
-pub fn ends(e: arith::Ends) {
-    signed(e.lower);
-    signed(e.upper);
+pub fn ends(rt: &impl Print, e: arith::Ends) -> io::Result<()> {
+    signed(rt, e.lower)?;
+    signed(rt, e.upper)
 }
 
-pub fn end_line() {
-    text(b"\n");
+pub fn end_line(rt: &impl Print) -> io::Result<()> {
+    text(rt, b"\n")
 }
 
 // Where a byte first stands, from a place on: the length where it does not.
@@ -73,24 +68,26 @@ pub fn position(bytes: &[u8], from: usize, byte: u8) -> usize
     k
 }
 
-fn element(numbers: &[i64], k: usize) {
+fn element(rt: &impl Print, numbers: &[i64], k: usize) -> io::Result<()> {
     if k < numbers.len() {
-        whole(numbers[k]);
+        whole(rt, numbers[k])?;
     }
+    Ok(())
 }
 
 // A text in which each `#` stands for the next of the numbers.
-pub fn filled(form: &[u8], numbers: &[i64]) {
+pub fn filled(rt: &impl Print, form: &[u8], numbers: &[i64]) -> io::Result<()> {
     let mut at = 0;
     let mut k = 0;
     while at < form.len() {
         let end = position(form, at, b'#');
-        text(&form[at..end]);
+        text(rt, &form[at..end])?;
         if end == form.len() {
-            return;
+            return Ok(());
         }
-        element(numbers, k);
+        element(rt, numbers, k)?;
         at = end + 1;
         k += 1;
     }
+    Ok(())
 }
