@@ -16,7 +16,7 @@ use Rattle.arith.specs.Rounding.{div_up}
 use Rattle.arith.proofs.Parts.{zs}
 use Rattle.arith.proofs.Machine.{lt-true}
 use Rattle.shift.specs.declared.Shift.{Shift}
-use Rattle.shift.specs.Speeds.{left_of, side_at, below, above, above_at, close_at, count, tally_of, own_by, against, by_set1, below_second, by_set2, goes_first, own_gear, Own}
+use Rattle.shift.specs.Speeds.{left_of, side_at, below, above_at, close_at, count, tally_of, own_by, against, by_set1, below_second, by_set2, goes_first, own_gear, Own}
 use Rattle.shift.proofs.Counting.{count_same}
 use Rattle.shift.proofs.Sets.{first, by-sets}
 use Rattle.tenths.specs.declared.LeastTenths.{LeastTenths}

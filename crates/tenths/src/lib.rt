@@ -48,6 +48,7 @@ fn from_zero(n: i64) -> u16
     if n < 0 { 0 } else { n as u16 }
 }
 
+#[tactic(auto, unfolding(crate::specs::Least::least_of))]
 fn least(side: Ends, ndv: u32) -> LeastTenths
     requires { (Sized largest_side side) × (1000 ≤ ndv) × (ndv ≤ 100000) }
     ensures { result ≡ least_of side ndv }
@@ -62,6 +63,7 @@ fn least(side: Ends, ndv: u32) -> LeastTenths
 }
 
 // Of the upshift from gear i; past the last what no speed reaches.
+#[tactic(auto, unfolding(crate::specs::Least::least_at))]
 fn least_at(s: Shift, i: usize) -> LeastTenths
     requires { (Worked s) × (i < 7) }
     ensures { result ≡ least_at s i }
@@ -84,6 +86,7 @@ pub fn not_below(lowest: u64, ndv: u32) -> u16
     from_zero(arith::div_up(lowest as i64, arith::whole(ndv)))
 }
 
+#[tactic(auto, unfolding(crate::specs::Least::first_of))]
 fn first(s: Shift) -> u16
     requires { Worked s }
     ensures { result ≡ first_of s }
@@ -95,6 +98,7 @@ fn first(s: Shift) -> u16
     0
 }
 
+#[tactic(auto, unfolding(crate::specs::Least::tenths_of))]
 fn tenths_of(s: Shift) -> Tenths
     requires { Worked s }
     ensures { result ≡ tenths_of s }
@@ -134,6 +138,7 @@ fn one_if(holds: bool) -> u8
 }
 
 // How many of the seven a speed has reached. Always seven, and no exit: so the compiler works on many seconds at once.
+#[tactic(auto, unfolding(crate::specs::Choice::reached))]
 fn reached(least: [u16; 7], speed: u16) -> u8
     ensures { (result ≡ reached least speed 7) × (result ≤ 7) }
 {
@@ -147,6 +152,7 @@ fn reached(least: [u16; 7], speed: u16) -> u8
 }
 
 // Those of them that count in the phase: the last upshift is no downshift.
+#[tactic(auto, unfolding(crate::specs::Choice::held))]
 fn held(least: [u16; 7], last: u16, accelerating: bool, speed: u16) -> u8
     ensures { (result ≡ held least last accelerating speed) × (result ≤ 7) }
 {
@@ -159,6 +165,7 @@ fn held(least: [u16; 7], last: u16, accelerating: bool, speed: u16) -> u8
 }
 
 // The gear of a second outside stop by the sheet's rule set, before corrections.
+#[tactic(auto, unfolding(crate::specs::Choice::own_by_tenths))]
 pub fn own_gear(t: Tenths, accelerating: bool, speed: u16) -> u8
     ensures { result ≡ (own_by_tenths t accelerating speed).gear }
 {
@@ -171,6 +178,7 @@ pub fn own_gear(t: Tenths, accelerating: bool, speed: u16) -> u8
 }
 
 // Whether any of its comparisons is too close to call. Apart from the gear, which is wanted of every second and this of hardly any.
+#[tactic(auto, unfolding(crate::specs::Choice::own_by_tenths))]
 pub fn is_close(t: Tenths, accelerating: bool, speed: u16) -> bool
     ensures { result ≡ (own_by_tenths t accelerating speed).close }
 {
@@ -182,6 +190,7 @@ pub fn is_close(t: Tenths, accelerating: bool, speed: u16) -> bool
 }
 
 // Whether any speed is too close to a shift speed.
+#[tactic(auto, unfolding(crate::specs::Choice::marked))]
 pub fn is_marked(t: Tenths) -> bool
     ensures { result ≡ marked t }
 {
