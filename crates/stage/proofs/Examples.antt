@@ -6,8 +6,7 @@ use Prim.Native.Nat.{ℕ}
 use lib.IntN.{ℤ, pos, neg_ℤ}
 use Rattle.arith.specs.declared.Ends.{Ends}
 use Rattle.arith.specs.Rounding.{div_down, div_up}
-use Rattle.arith.specs.Stages.{exactly, sum_of, difference_of, scaled_by, hull_of, product_of, divided_by}
-use Rattle.stage.specs.Combination.{combination_of}
+use Rattle.arith.specs.Stages.{exactly, difference_of, scaled_by, hull_of, product_of, divided_by}
 use Rattle.stage.specs.Part.{gtr, volume_of, q_of, dilution_good, concentration_of, gas_volume_of, mass_of, humidity_good, nox_mass_of, rate_of}
 
 abbrev ends : ℤ → ℤ → Ends

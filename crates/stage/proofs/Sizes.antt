@@ -1,7 +1,6 @@
 -- How large the outcome of each stage can be, from the sizes of what it is given: so a caller meets what the next stage asks. The
 -- bounds are those of specs/Ranges.antt. Assumes nothing.
-use mathlib.Core.Path.{◌≡◌}
-use Prim.Native.Nat.{ℕ, ◌+◌, ◌-◌, ◌*◌, ◌≤◌, ◌<◌}
+use Prim.Native.Nat.{ℕ, ◌-◌, ◌*◌, ◌≤◌, ◌<◌}
 use native.Mathlib.Nat.{mul-le-mul_right}
 use native.Mathlib.Omega.{arith}
 use lib.IntN.{ℤ, pos, negsuc, ◌*ℤ◌}
@@ -18,7 +17,7 @@ use Rattle.stage.specs.Ranges.{UpTo, VolumeRanges, GRanges, ConcentrationRanges,
 use Rattle.stage.specs.Ranges.{largest_reading, largest_signed, largest_g, largest_volume, largest_concentration, largest_gas_volume, largest_mass}
 use Rattle.stage.specs.Ranges.{largest_kh, largest_nox_mass}
 use Rattle.stage.proofs.UpTo.{wider-up_to, sum-up_to, times-up_to, product-up_to, difference-up_to-size}
-use Rattle.stage.proofs.Steps.{combination-size, kelvin-least, swept-most, q-positive, rest-up_to, net-size, vapour-most, divisor-least}
+use Rattle.stage.proofs.Steps.{kelvin-least, swept-most, q-positive, rest-up_to, net-size, vapour-most, divisor-least}
 
 -- a divisor that is at least k
 pub divided-by-size : {q : ℕ} {a : Ends} (k : ℕ) (d : ℤ) → 0 < k → pos k ≤ℤ d → Sized (k * q) a → Sized q (divided_by a d)

@@ -1,5 +1,4 @@
 -- How large what a stage works out on its way can be, so that its own sums and products fit the machine. Assumes nothing.
-use mathlib.Core.Path.{◌≡◌}
 use Prim.Native.Nat.{ℕ, ◌+◌, ◌-◌, ◌*◌, ◌≤◌}
 use native.Mathlib.Nat.{mul-le-mul}
 use native.Mathlib.Omega.{arith}
@@ -15,7 +14,7 @@ use Rattle.arith.proofs.Size.{sum-size, difference-size, scaled-size, product-si
 use Rattle.bag.specs.Fields.{most_pumped, barometer_range}
 use Rattle.stage.specs.Combination.{combination_of}
 use Rattle.stage.specs.Part.{gtr, kelvin_of, net_of, vapour_of, dry_of, humidity_good}
-use Rattle.stage.specs.Ranges.{UpTo, VolumeRanges, ConcentrationRanges, HumidityRanges, KhRanges, largest_signed, largest_mass}
+use Rattle.stage.specs.Ranges.{UpTo, VolumeRanges, ConcentrationRanges, HumidityRanges, KhRanges, largest_signed}
 use Rattle.stage.proofs.UpTo.{up_to-size}
 
 -- three numbers of size m, with factors up to j, k and l

@@ -1,10 +1,10 @@
 -- What the stages ask of what they are given: the ranges of the bag sheet's fields, and how large the ends from the stages before can be.
-use Rattle.std.specs.Prelude.{◌≡◌, true, ℕ, ◌+◌, ◌*◌, ◌≤◌, ℤ, pos, ◌≤ℤ◌}
+use Rattle.std.specs.Prelude.{◌≡◌, true, ℕ, ◌*◌, ◌≤◌, ℤ, pos, ◌≤ℤ◌}
 use Rattle.arith.specs.declared.Ends.{Ends}
 use Rattle.arith.specs.Fitting.{Sized}
 use Rattle.reading.specs.Units.{most_units}
 use Rattle.bag.specs.Fields.{most_pumped, barometer_range, depression_range, coldest, hottest, humidity_range, saturation_range, distance_range, density_range}
-use Rattle.bag.specs.Fields.{d_range, w_range, k_range, factor_range, fuel_density_range}
+use Rattle.bag.specs.Fields.{d_range, w_range, factor_range}
 use Rattle.stage.specs.Part.{q_of, dilution_good, humidity_good}
 
 -- ends in order, from 0 to m

@@ -21,6 +21,7 @@ pub fn signed(n: u64) -> i64
 }
 
 // Three numbers, each with its own factor.
+#[tactic(auto, unfolding(crate::specs::Combination::combination_of))]
 pub fn combination(j: u32, a: Ends, k: u32, b: Ends, l: u32, c: Ends) -> Ends
     requires { CombinationRanges j a k b l c }
     ensures { result ≡ combination_of j a k b l c }
@@ -39,6 +40,7 @@ fn kelvin(temperature: i32) -> i64
 }
 
 // The diluted gas of a part, in ml.
+#[tactic(auto, unfolding(crate::specs::Part::volume_of))]
 pub fn volume(
     pump: u32,
     revolutions: u32,
@@ -54,6 +56,7 @@ pub fn volume(
 }
 
 // The weighted sum of the carbon gases in the bag.
+#[tactic(auto, unfolding(crate::specs::Part::g_of))]
 pub fn g_of(co2: Ends, co: Ends, hc: Ends, wc: u32, wh: u32) -> Ends
     requires { GRanges co2 co hc wc wh }
     ensures { result ≡ g_of co2 co hc wc wh }
@@ -76,6 +79,7 @@ pub fn dilution_good(g: Ends, q: u32) -> bool
 }
 
 // What the bag has beyond the dilution air, in 1/4,096 ppm: negative where the air has more.
+#[tactic(auto, unfolding(crate::specs::Part::concentration_of))]
 pub fn concentration(bag: Ends, air: Ends, g: Ends, q: u32) -> Ends
     requires { ConcentrationRanges bag air g q }
     ensures { result ≡ concentration_of bag air g q }
@@ -86,6 +90,7 @@ pub fn concentration(bag: Ends, air: Ends, g: Ends, q: u32) -> Ends
 }
 
 // In microlitres.
+#[tactic(auto, unfolding(crate::specs::Part::gas_volume_of))]
 pub fn gas_volume(volume: Ends, concentration: Ends) -> Ends
     requires { GasVolumeRanges volume concentration }
     ensures { result ≡ gas_volume_of volume concentration }
@@ -94,6 +99,7 @@ pub fn gas_volume(volume: Ends, concentration: Ends) -> Ends
 }
 
 // In micrograms.
+#[tactic(auto, unfolding(crate::specs::Part::mass_of))]
 pub fn mass(gas: Ends, density: u32) -> Ends
     requires { MassRanges gas density }
     ensures { result ≡ mass_of gas density }
@@ -117,6 +123,7 @@ fn dry(humidity: u32, saturation: u32, barometer: u32) -> u64
 }
 
 // Whether H is at most 30, which keeps Kh's divisor above zero.
+#[tactic(auto, unfolding(crate::specs::Part::humidity_good))]
 pub fn humidity_good(humidity: u32, saturation: u32, barometer: u32) -> bool
     requires { HumidityRanges humidity saturation barometer }
     ensures { result ≡ humidity_good humidity saturation barometer }
@@ -127,6 +134,7 @@ pub fn humidity_good(humidity: u32, saturation: u32, barometer: u32) -> bool
 }
 
 // The humidity's correction, in 1/65,536.
+#[tactic(auto, unfolding(crate::specs::Part::kh_of))]
 pub fn kh(humidity: u32, saturation: u32, barometer: u32) -> Ends
     requires { KhRanges humidity saturation barometer }
     ensures { result ≡ kh_of humidity saturation barometer }
@@ -138,6 +146,7 @@ pub fn kh(humidity: u32, saturation: u32, barometer: u32) -> Ends
 }
 
 // In micrograms, corrected for humidity.
+#[tactic(auto, unfolding(crate::specs::Part::nox_mass_of))]
 pub fn nox_mass(mass: Ends, kh: Ends) -> Ends
     requires { NoxMassRanges mass kh }
     ensures { result ≡ nox_mass_of mass kh }
@@ -146,6 +155,7 @@ pub fn nox_mass(mass: Ends, kh: Ends) -> Ends
 }
 
 // In micrograms/km.
+#[tactic(auto, unfolding(crate::specs::Part::rate_of))]
 pub fn rate(mass: Ends, distance: u32) -> Ends
     requires { RateRanges mass distance }
     ensures { result ≡ rate_of mass distance }
