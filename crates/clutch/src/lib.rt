@@ -7,6 +7,7 @@ ghost use Rattle.clutch.specs.Clutch.{clutch_of, clutch_by, with_clutch};
 
 use vehicle::VehicleSheet;
 
+#[tactic(auto, unfolding(crate::specs::Clutch::clutch_of))]
 pub fn clutch_of(v: VehicleSheet, flags: u8, speed: u32, gear: u8) -> u8
     ensures { result ≡ clutch_of v flags speed gear }
 {
@@ -18,6 +19,7 @@ pub fn clutch_of(v: VehicleSheet, flags: u8, speed: u32, gear: u8) -> u8
 }
 
 // The clutch of each second, by the gear that the row has there.
+#[tactic(auto, unfolding(crate::specs::Clutch::with_clutch))]
 pub fn set_clutch(v: VehicleSheet, trace: &[u8], row: &mut [u8], n: usize)
     requires { HaveSeconds trace.now row.old n }
     ensures { row.new ≡ with_clutch (clutch_by v trace.now) row.old n }
