@@ -56,6 +56,7 @@ fn fill(row: &mut [u8], start: usize, count: usize, gear: u8)
 }
 
 // Whether the run from `start` to before `end` takes the gear beside it. That it does tells the caller that there is a second at `end`.
+#[tactic(auto, unfolding(crate::specs::Runs::takes))]
 fn takes(trace: &[u8], row: &[u8], n: usize, start: usize, end: usize) -> bool
     requires have_seconds { HaveSeconds trace.now row.now n }
     requires start_lt_end { (start < end) × (end ≤ n) }
