@@ -50,6 +50,7 @@ pub fn first_gear(flags: u8, own: u8, left: usize) -> u8
 }
 
 // The row before corrections, from the gears outside stop.
+#[tactic(auto, unfolding(crate::specs::Phase::first_gear, crate::specs::Phase::first_row))]
 pub fn first_row(trace: &[u8], own: &[u8], row: &mut [u8], n: usize)
     requires { (HaveSeconds trace.now row.old n) × (n ≤ length own.now) }
     ensures { row.new ≡ first_row (λ k. get_or own.now k 0) trace.now n ++ drop (2 * n) row.old }
