@@ -45,6 +45,7 @@ pub fn weights_of(class: u32) -> Weights
 }
 
 // A gas over the whole test, in micrograms/km, from its rates in the parts.
+#[tactic(auto, unfolding(crate::specs::Test::weighted_of))]
 pub fn weighted(weights: Weights, first: Ends, second: Ends, third: Ends) -> Ends
     requires { WeightedRanges weights first second third }
     ensures { result ≡ weighted_of weights first second third }
@@ -63,6 +64,7 @@ pub fn weighted(weights: Weights, first: Ends, second: Ends, third: Ends) -> End
 }
 
 // In microlitres per 100 km, from the weighted gases that hold carbon.
+#[tactic(auto, unfolding(crate::specs::Test::fuel_of))]
 pub fn fuel(k: u32, f1: u32, f2: u32, f3: u32, density: u32, hc: Ends, co: Ends, co2: Ends) -> Ends
     requires { FuelRanges k f1 f2 f3 density hc co co2 }
     ensures { result ≡ fuel_of k f1 f2 f3 density hc co co2 }
@@ -81,6 +83,7 @@ pub enum Verdict {
 }
 
 // How a weighted gas stands to its limit. The limit comes as the sheet has it, unsigned and up to 10^12, and is made signed here once.
+#[tactic(auto, unfolding(crate::specs::Test::verdict_of))]
 pub fn verdict_of(rate: Ends, limit: u64) -> Verdict
     requires { limit ≤ most_limit }
     ensures { result ≡ verdict_of rate limit }
