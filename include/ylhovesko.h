@@ -31,7 +31,7 @@ extern "C" {
  *
  *     if (ylhovesko_version() != YLHOVESKO_VERSION) return EXIT_FAILURE;
  */
-#define YLHOVESKO_VERSION 14u
+#define YLHOVESKO_VERSION 13u
 
 /* The version of the archive. */
 uint32_t ylhovesko_version(void);

@@ -15,7 +15,7 @@ import sys
 
 LIBRARY = pathlib.Path(__file__).resolve().parents[1] / "target" / "libylhovesko.so"
 
-VERSION = 14  # of the header after which the types here are written
+VERSION = 13  # of the header after which the types here are written
 
 UNSIGNED = ctypes.c_uint32
 GASES = ["hc", "co", "nox", "co2", "nmhc"]

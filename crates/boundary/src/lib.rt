@@ -42,7 +42,7 @@ use vehicle::VehicleSheet;
 pub extern "C" fn ylhovesko_version() -> u32
     ensures { result ≡ version }
 {
-    14
+    13
 }
 
 // The gear sheet: refusals 1 to 9 and 20, or the row in the buffer from the start on.

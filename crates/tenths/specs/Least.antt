@@ -38,7 +38,7 @@ not_below lowest ndv = from_zero (div_up (pos lowest) (pos ndv))
 
 -- 02, M-101: the downshift 2 to 1 is "compared exactly: gear 1 strictly below", so the least tenth at or above it. Rule set 1 has none, and no speed is below 0
 unfoldable pub first_of : Shift → ℕ
-first_of s = cond (eqb s.rules 2) (not_below s.lowest (get_or s.ndv 1 0)) 0
+first_of s = cond (eqb s.rules 2) (from_zero (div_up (pos s.lowest) (pos (get_or s.ndv 1 0)))) 0
 
 -- always seven places, as many as eight gears have; and the last upshift, from gear ng - 1, once more
 unfoldable pub tenths_of : Shift → Tenths

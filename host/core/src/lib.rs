@@ -25,7 +25,7 @@ use std::sync::Once;
 pub const LINKED: bool = cfg!(linked);
 
 /// The version of the header after which the types here are written.
-pub const VERSION: u32 = 14;
+pub const VERSION: u32 = 13;
 
 /// The version of the core's archive.
 ///

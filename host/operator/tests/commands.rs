@@ -210,7 +210,7 @@ fn every_command_has_help() {
         }
     }
     let told = run(&["--version"]);
-    assert_eq!((told.out.as_str(), told.code), (concat!("ylhovesko ", env!("CARGO_PKG_VERSION"), ", core version 14\n"), Some(0)));
+    assert_eq!((told.out.as_str(), told.code), (concat!("ylhovesko ", env!("CARGO_PKG_VERSION"), ", core version 13\n"), Some(0)));
 }
 
 /// The examples of a command's help, without the name that was typed.
