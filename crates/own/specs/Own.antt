@@ -13,22 +13,22 @@ use Rattle.shift.specs.Speeds.{own_gear, ShiftRanges, Own}
 unfoldable pub own_second : Shift → ℕ → ℕ → Own
 own_second s flags speed = cond (stop flags) (record { gear = 0; close = false }) (own_gear s (acceleration flags) speed)
 
-abbrev pub field_own : Shift → List ℕ → ℕ → Own
-field_own s trace k = own_second s (flags_at trace k) (speed_at trace k)
+abbrev pub own_at : Shift → List ℕ → ℕ → Own
+own_at s trace k = own_second s (flags_at trace k) (speed_at trace k)
 
 -- 9: "Too close in any comparison .. refuses the trace", the first such of the n seconds from k on
 abbrev pub judge_own : (ℕ → Own) → ℕ → ℕ → Judged
 judge_own own = scan (λ k. not (own k).close) (λ k. Refused (TooClose (k + 1))) (λ k. Accepted)
 
 abbrev pub judge_close : Shift → List ℕ → ℕ → ℕ → Judged
-judge_close s trace = judge_own (field_own s trace)
+judge_close s trace = judge_own (own_at s trace)
 
 -- the own gears of n seconds, put into a list
 abbrev pub put_gears : (ℕ → Own) → List ℕ → ℕ → List ℕ
 put_gears own = in_turn (λ gears k. set gears k (own k).gear)
 
 abbrev pub put_own : Shift → List ℕ → List ℕ → ℕ → List ℕ
-put_own s trace = put_gears (field_own s trace)
+put_own s trace = put_gears (own_at s trace)
 
 -- the list after the comparisons: the own gears at its front, or as it was
 unfoldable pub gears_after : Shift → List ℕ → List ℕ → ℕ → List ℕ

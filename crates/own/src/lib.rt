@@ -13,6 +13,7 @@ use tenths::Tenths;
 use vehicle::VehicleSheet;
 
 // The gear that a second's speed gives, which a stop second does not take. It is worked out there too: without a branch the compiler works on many seconds at once.
+#[tactic(auto, unfolding(crate::specs::ByTenths::second_by_tenths))]
 pub fn own_second(t: Tenths, flags: u8, speed: u16) -> u8
     ensures { result ≡ (second_by_tenths t flags speed).gear }
 {
@@ -21,6 +22,7 @@ pub fn own_second(t: Tenths, flags: u8, speed: u16) -> u8
 }
 
 // Whether it is too close to call.
+#[tactic(auto, unfolding(crate::specs::ByTenths::second_by_tenths))]
 pub fn is_close(t: Tenths, flags: u8, speed: u16) -> bool
     ensures { result ≡ (second_by_tenths t flags speed).close }
 {
@@ -48,6 +50,7 @@ fn judge_own(t: Tenths, trace: &[u8], n: usize) -> Judged
 }
 
 // It is sought only where a tenth is marked.
+#[tactic(auto, unfolding(crate::specs::ByTenths::judge_marked))]
 pub fn judge_marked(t: Tenths, trace: &[u8], n: usize) -> Judged
     requires { (Lasts trace.now n) × (n ≤ 2000) }
     ensures { result ≡ judge_marked t trace.now n }
