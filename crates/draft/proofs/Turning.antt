@@ -13,7 +13,7 @@ use Rattle.house.proofs.Drafts.{known-flags}
 use Rattle.house.proofs.Written.{file-length, file-version, file-count, file-speed, file-flags, file-zero}
 use Rattle.trace.proofs.Sound.{accepted-by}
 use Rattle.draft.specs.Draft.{judge_draft, open_at, mended, turned, listed_at, list_of}
-use Rattle.draft.specs.Statements.{On, Turning, Again}
+use Rattle.draft.specs.Statements.{On, Turning}
 use Rattle.draft.proofs.Answers.{past, each-good, read_by}
 use Rattle.draft.proofs.Listing.{held_on, on_none}
 use Rattle.draft.proofs.Mending.{mended-count}

@@ -1,6 +1,6 @@
 -- What is promised of mending and turning beyond their definitions (02, M-112), over every draft that is read. The theorems are those of proofs/Mending.antt, Again.antt and
 -- Turning.antt.
-use Rattle.std.specs.Prelude.{◌≡◌, Bool, true, false, List, [], ℕ, ◌+◌, ◌/◌, ◌≤◌, ◌<◌, length, get_or}
+use Rattle.std.specs.Prelude.{◌≡◌, Bool, true, false, List, [], ℕ, ◌+◌, ◌≤◌, ◌<◌, length, get_or}
 use Rattle.refusal.specs.declared.Judged.TheVariants.{Accepted}
 use Rattle.house.specs.House.{version_of, count_of, speed_at, flags_at, zero_at, phase_of, no_shift, no_first, missing_at}
 use Rattle.trace.specs.Judging.{judge_trace}

@@ -43,6 +43,7 @@ fn judge_seconds(draft: &[u8], n: usize, turning: bool) -> Judged
 }
 
 // Refusals 1 to 4, read by version 3; of a draft that is to be turned, 4 for an open second too.
+#[tactic(auto, unfolding(crate::specs::Draft::judge_draft))]
 fn judge(draft: &[u8], turning: bool) -> Judged
     ensures { result ≡ judge_draft turning draft.now }
 {
@@ -201,6 +202,7 @@ fn mended_flags(draft: &[u8], n: usize, k: usize, gap: Gap) -> u8
 }
 
 // The n seconds of the mended draft behind the head.
+#[tactic(auto, unfolding(house::specs::Written::seconds_to))]
 fn put_seconds(draft: &[u8], n: usize, buffer: &mut [u8])
     requires { (Drafted draft.now n) × (8 + 4 * n ≤ length buffer.old) }
     ensures { buffer.new ≡ with_seconds draft.now n buffer.old }

@@ -1,0 +1,15 @@
+-- `is_level` meets its contract: behind a second with the speed of the first the search goes on.
+use Rattle.std.proofs.Common.{sym, ◌∙◌, false, true, nat_eq, eq-eqb, arith}
+use Rattle.walk.proofs.Walk.{scan-on}
+use Rattle.house.specs.House.{speed_at}
+use Rattle.draft.proofs.is_level.Goals as goal
+
+pub loop-k-preserved : goal.loop-k-preserved
+loop-k-preserved c =
+    let draft = c.args.draft.now in
+    let from = c.args.from in (
+      omega arith,
+      c.loop-k.invariant.1
+          ∙ scan-on (λ k. nat_eq (speed_at draft k) (speed_at draft from)) (λ k. false) (λ k. true) _ _ c.loop-k-test.true
+          (eq-eqb _ _ (sym c.speed_at.ensures.0 ∙ c.if-speed_at-speed.false ∙ c.speed_at-speed.ensures.0)),
+    )
