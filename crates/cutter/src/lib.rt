@@ -27,6 +27,7 @@ fn fitted_in(p: Part) -> bool
 }
 
 // Parts past the class's number are not read.
+#[tactic(auto, unfolding(crate::specs::NonMethane::cutter_of))]
 pub fn cutter_of(s: BagSheet) -> Cutter
     ensures { result ≡ cutter_of s }
 {
@@ -55,6 +56,7 @@ pub fn is_good(c: Cutter) -> bool
 }
 
 // In 1/256 ppm, like the two readings, and negative where the cutter's is too large for the other.
+#[tactic(auto, unfolding(crate::specs::NonMethane::non_methane_of))]
 fn non_methane(e: Efficiencies, hc: Ends, behind: Ends) -> Ends
     requires { NonMethaneRanges e hc behind }
     ensures { result ≡ non_methane_of e hc behind }
@@ -67,6 +69,7 @@ fn non_methane(e: Efficiencies, hc: Ends, behind: Ends) -> Ends
 }
 
 // The fifth gas of a bag or of the air: nothing where the test has none.
+#[tactic(auto, unfolding(crate::specs::NonMethane::nmhc_of))]
 pub fn nmhc(c: Cutter, hc: Ends, behind: Ends) -> Ends
     requires { NmhcRanges c hc behind }
     ensures { result ≡ nmhc_of c hc behind }
