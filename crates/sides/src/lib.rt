@@ -47,6 +47,7 @@ pub enum PartRead {
     Refused(Refusal),
 }
 
+#[tactic(auto, unfolding(crate::specs::Gases::each, crate::specs::Gases::nothing))]
 pub fn no_gases() -> Gases
     ensures { result ≡ nothing }
 {
@@ -60,6 +61,7 @@ pub fn no_gases() -> Gases
 }
 
 // The ends of a gas from what its messages are worth, the bag's before the air's, or refusal 12.
+#[tactic(auto, unfolding(crate::specs::ReadIn::read_gas))]
 fn read_gas(part: u32, gas: u32, bag: Worth, air: Worth) -> GasRead
     ensures { result ≡ read_gas part gas bag air }
 {
@@ -75,6 +77,7 @@ fn read_gas(part: u32, gas: u32, bag: Worth, air: Worth) -> GasRead
     })
 }
 
+#[tactic(auto, unfolding(crate::specs::Gases::each, crate::specs::ReadIn::sides_from))]
 fn sides_from(hc: GasSides, co: GasSides, nox: GasSides, co2: GasSides, cutter: GasSides) -> Sides
     ensures { result ≡ sides_from hc co nox co2 cutter }
 {
@@ -107,6 +110,7 @@ fn sides_from(hc: GasSides, co: GasSides, nox: GasSides, co2: GasSides, cutter: 
 
 // The ends of every gas, in the table's order, or the first refusal. Each message is converted once, and all of them before the first is looked at:
 // ends that were just written and are read at once make the processor wait (docs/DECISIONS.md).
+#[tactic(auto, unfolding(crate::specs::ReadIn::read_part))]
 pub fn read_part(part: u32, p: Part) -> PartRead
     ensures { result ≡ read_part part p }
 {
@@ -171,6 +175,7 @@ pub enum Read {
 }
 
 // A third part that the class does not have is not read.
+#[tactic(auto, unfolding(crate::specs::ReadIn::read_third))]
 fn read_third(class: u32, third: Part) -> PartRead
     ensures { result ≡ read_third class third }
 {
@@ -183,6 +188,7 @@ fn read_third(class: u32, third: Part) -> PartRead
     })
 }
 
+#[tactic(auto, unfolding(crate::specs::ReadIn::read_in))]
 pub fn readings_in(s: BagSheet) -> Read
     ensures { result ≡ read_in s }
 {
