@@ -79,6 +79,7 @@ fn seen(flags: u8, own: u8) -> u8
 }
 
 // Corrections 1 to 5, one step on. `start` says that it is the first second.
+#[tactic(auto, unfolding(crate::specs::Live::fifth, crate::specs::Live::first, crate::specs::Live::former_after, crate::specs::Live::fourth, crate::specs::Live::second, crate::specs::Live::third))]
 fn former_after(start: bool, f: Former, flags: u8, own: u8) -> Former
     ensures { result ≡ former_after start f flags own }
 {
@@ -114,6 +115,7 @@ fn stays() -> Pending
     }
 }
 
+#[tactic(auto, unfolding(crate::specs::Live::longer))]
 fn longer(p: Pending, flags: u8) -> Pending
     ensures { result ≡ longer p flags }
 {
@@ -131,12 +133,14 @@ fn longer(p: Pending, flags: u8) -> Pending
     }
 }
 
+#[tactic(auto, unfolding(crate::specs::Live::takes_over))]
 fn takes_over(p: Pending, flags: u8, gear: u8) -> bool
     ensures { result ≡ takes_over p flags gear }
 {
     (0 < p.count) & !house::is_stop(flags) & (p.left == gear) & !((gear == 1) & (0 < p.marked))
 }
 
+#[tactic(auto, unfolding(crate::specs::Live::reach))]
 fn reach(p: Pending, flags: u8, gear: u8) -> u8
     ensures { result ≡ reach p flags gear }
 {
@@ -148,6 +152,7 @@ fn reach(p: Pending, flags: u8, gear: u8) -> u8
 }
 
 // Correction 6: what is pending after a second with the flags and the gear, behind one with the flags `former` and the gear `before`.
+#[tactic(auto, unfolding(crate::specs::Live::pending_after))]
 fn pending_after(p: Pending, former: u8, before: u8, flags: u8, gear: u8) -> Pending
     ensures { result ≡ pending_after p former before flags gear }
 {
@@ -170,6 +175,7 @@ fn pending_after(p: Pending, former: u8, before: u8, flags: u8, gear: u8) -> Pen
     }
 }
 
+#[tactic(auto, unfolding(crate::specs::Live::stops_after))]
 fn stops_after(stops: u8, flags: u8) -> u8
     ensures { result ≡ stops_after stops flags }
 {
@@ -186,6 +192,7 @@ fn kept(old: u8, new: u8, reached: u8, i: u8) -> u8
     if i < reached { new } else { old }
 }
 
+#[tactic(auto, unfolding(crate::specs::Live::last_five))]
 fn last_five(last: [u8; 5], new: u8, reached: u8) -> [u8; 5]
     ensures { result ≡ last_five last new reached }
 {
@@ -199,6 +206,7 @@ fn last_five(last: [u8; 5], new: u8, reached: u8) -> [u8; 5]
 }
 
 // A second received. Of the gears, `own` is the one of its speed; that of a stop is not looked at.
+#[tactic(auto, unfolding(crate::specs::Live::former_after, crate::specs::Live::last_five, crate::specs::Live::step))]
 pub fn step(s: Live, speed: u16, flags: u8, own: u8) -> Live
     requires { s.received < 2000 }
     ensures { result ≡ step s speed flags own }
@@ -245,6 +253,7 @@ fn wide(speed: u16) -> u32
 }
 
 // What the call of a second with the flags gives.
+#[tactic(auto, unfolding(crate::specs::Live::given))]
 pub fn give(v: VehicleSheet, s: Live, flags: u8) -> Given
     ensures { result ≡ packed (due s) (given v s flags) }
 {
@@ -274,6 +283,7 @@ fn waiting(s: Live) -> usize
 }
 
 // What the end gives.
+#[tactic(auto, unfolding(crate::specs::Live::finish))]
 pub fn finish(v: VehicleSheet, s: Live) -> Given
     ensures { result ≡ packed (waiting s) (finish v s) }
 {
