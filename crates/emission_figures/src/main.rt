@@ -5,23 +5,25 @@
 mod output;
 mod sheet;
 
-use libc::STDIN_FILENO;
+use std::io;
+use std::io::Read;
 
-fn lines(text: &[u8]) {
+fn lines(rt: &impl Print, text: &[u8]) -> io::Result<()> {
     let mut lasting = [0; 802];
     let mut own = [0; 802];
     let mut at = 0;
     while at < text.len() {
-        let line = cases::read_line(text, at, &mut lasting, &mut own);
+        let line = cases::read_line(rt, text, at, &mut lasting, &mut own)?;
         if at < line.said {
-            output::show(own);
+            output::show(rt, own)?;
         }
         at = line.end;
     }
+    Ok(())
 }
 
-fn main() {
-    let mut bytes = io::large_buffer();
-    let n = io::read_full(STDIN_FILENO, &mut bytes);
-    lines(&bytes[..n]);
+fn main(rt: HostRuntime) -> io::Result<()> {
+    let mut text = Vec::new(rt.alloc());
+    rt.reader().read_to_end(&mut text)?;
+    lines(&rt, &text)
 }

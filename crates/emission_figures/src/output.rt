@@ -8,17 +8,20 @@ use print::{filled, text};
 use reading::{Message, Worth};
 use refusal::Refusal;
 use sides::Gases;
+use std::io;
 use weigh::Verdict;
 
 // The fifth gas stands last in a line, where the test has it.
-fn nmhc(has_nmhc: bool, e: Ends) {
+fn nmhc(rt: &impl Print, has_nmhc: bool, e: Ends) -> io::Result<()> {
     if has_nmhc {
-        filled(b" NMHC # #", &[e.lower, e.upper]);
+        filled(rt, b" NMHC # #", &[e.lower, e.upper])?;
     }
+    Ok(())
 }
 
-fn gases(form: &[u8], has_nmhc: bool, g: Gases) {
+fn gases(rt: &impl Print, form: &[u8], has_nmhc: bool, g: Gases) -> io::Result<()> {
     filled(
+        rt,
         form,
         &[
             g.hc.lower,
@@ -30,77 +33,83 @@ fn gases(form: &[u8], has_nmhc: bool, g: Gases) {
             g.co2.lower,
             g.co2.upper,
         ],
-    );
-    nmhc(has_nmhc, g.nmhc);
+    )?;
+    nmhc(rt, has_nmhc, g.nmhc)
 }
 
-fn volume(part: i64, e: Ends) {
-    filled(b"\npart # volume # #", &[part, e.lower, e.upper]);
+fn volume(rt: &impl Print, part: i64, e: Ends) -> io::Result<()> {
+    filled(rt, b"\npart # volume # #", &[part, e.lower, e.upper])
 }
 
-fn part_result(part: i64, has_nmhc: bool, p: PartResult) {
-    volume(part, p.volume);
-    gases(b"\n mass HC # # CO # # NOx # # CO2 # #", has_nmhc, p.mass);
-    gases(b"\n rate HC # # CO # # NOx # # CO2 # #", has_nmhc, p.rate);
+fn part_result(rt: &impl Print, part: i64, has_nmhc: bool, p: PartResult) -> io::Result<()> {
+    volume(rt, part, p.volume)?;
+    gases(
+        rt,
+        b"\n mass HC # # CO # # NOx # # CO2 # #",
+        has_nmhc,
+        p.mass,
+    )?;
+    gases(
+        rt,
+        b"\n rate HC # # CO # # NOx # # CO2 # #",
+        has_nmhc,
+        p.rate,
+    )
 }
 
-fn verdict(v: Verdict) {
+fn verdict(rt: &impl Print, v: Verdict) -> io::Result<()> {
     match v {
-        Verdict::Pass => {
-            text(b" pass");
-        }
-        Verdict::Fail => {
-            text(b" fail");
-        }
-        Verdict::Undecided => {
-            text(b" undecided");
-        }
-        Verdict::NoVerdict => {}
+        Verdict::Pass => text(rt, b" pass"),
+        Verdict::Fail => text(rt, b" fail"),
+        Verdict::Undecided => text(rt, b" undecided"),
+        Verdict::NoVerdict => Ok(()),
     }
 }
 
-fn verdicts(v: Verdicts) {
-    text(b"\nverdicts");
+fn verdicts(rt: &impl Print, v: Verdicts) -> io::Result<()> {
+    text(rt, b"\nverdicts")?;
     let hc = v.hc;
     let co = v.co;
     let nox = v.nox;
     let co2 = v.co2;
     let nmhc = v.nmhc;
-    verdict(hc);
-    verdict(co);
-    verdict(nox);
-    verdict(co2);
-    verdict(nmhc);
-    text(b"\nfuel");
+    verdict(rt, hc)?;
+    verdict(rt, co)?;
+    verdict(rt, nox)?;
+    verdict(rt, co2)?;
+    verdict(rt, nmhc)?;
+    text(rt, b"\nfuel")
 }
 
-fn ends(e: Ends) {
-    filled(b" # #\n", &[e.lower, e.upper]);
+fn ends(rt: &impl Print, e: Ends) -> io::Result<()> {
+    filled(rt, b" # #\n", &[e.lower, e.upper])
 }
 
-fn result(r: TestResult) {
+fn result(rt: &impl Print, r: TestResult) -> io::Result<()> {
     let parts = r.parts;
     let has_nmhc = r.has_nmhc;
-    part_result(1, has_nmhc, parts.first);
-    part_result(2, has_nmhc, parts.second);
-    part_result(3, has_nmhc, parts.third);
+    part_result(rt, 1, has_nmhc, parts.first)?;
+    part_result(rt, 2, has_nmhc, parts.second)?;
+    part_result(rt, 3, has_nmhc, parts.third)?;
     gases(
+        rt,
         b"\nweighted HC # # CO # # NOx # # CO2 # #",
         has_nmhc,
         r.weighted,
-    );
-    verdicts(r.verdicts);
-    ends(r.fuel);
+    )?;
+    verdicts(rt, r.verdicts)?;
+    ends(rt, r.fuel)
 }
 
-fn taken() {
-    text(b" taken\n");
+fn taken(rt: &impl Print) -> io::Result<()> {
+    text(rt, b" taken\n")
 }
 
-fn refused(r: Refusal) {
+fn refused(rt: &impl Print, r: Refusal) -> io::Result<()> {
     let place = refusal::place_of(r);
     let number = refusal::number_of(r);
     filled(
+        rt,
         b" refusal # at # # #\n",
         &[
             number as i64,
@@ -108,42 +117,36 @@ fn refused(r: Refusal) {
             place.within as i64,
             place.side as i64,
         ],
-    );
+    )
 }
 
 // The result where the sheet is taken, or only that it is.
-fn answer(s: BagSheet, whole: bool) {
+fn answer(rt: &impl Print, s: BagSheet, whole: bool) -> io::Result<()> {
     let answer = emission::test(s);
     match answer {
-        Answer::Result(r) => {
-            if whole {
-                result(r);
-            } else {
-                taken();
-            }
-        }
-        Answer::Refused(r) => refused(r),
+        Answer::Result(r) => { if whole { result(rt, r) } else { taken(rt) } }
+        Answer::Refused(r) => refused(rt, r),
     }
 }
 
-fn unusable() {
-    text(b" unusable\n");
+fn unusable(rt: &impl Print) -> io::Result<()> {
+    text(rt, b" unusable\n")
 }
 
-fn units(message: Message) {
+fn units(rt: &impl Print, message: Message) -> io::Result<()> {
     let reading = reading::convert(message);
     match reading {
-        Worth::Units(e) => ends(e),
-        Worth::Unusable => unusable(),
+        Worth::Units(e) => ends(rt, e),
+        Worth::Unusable => unusable(rt),
     }
 }
 
 // Place 3 says what is asked.
-pub fn show(n: [u64; 802]) {
+pub fn show(rt: &impl Print, n: [u64; 802]) -> io::Result<()> {
     let asked = cases::number_at(n, 0, 3);
     if asked == 2 {
-        units(sheet::message_at(n, 1, 2, 1));
+        units(rt, sheet::message_at(n, 1, 2, 1))
     } else {
-        answer(sheet::sheet_in(n), asked == 1);
+        answer(rt, sheet::sheet_in(n), asked == 1)
     }
 }

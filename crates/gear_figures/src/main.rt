@@ -10,42 +10,50 @@ mod sheet;
 mod shifts;
 mod writing;
 
-use libc::STDIN_FILENO;
+use std::io;
+use std::io::Read;
+use std::rt::Files;
 
 // Place 20 says what is asked.
-fn show(n: [u64; 802], said: &[u8], rows: &mut [u8; 3610]) {
+fn show(
+    rt: &(impl Files + Print),
+    n: [u64; 802],
+    said: &[u8],
+    rows: &mut [u8; 3610],
+) -> io::Result<()> {
     let asked = cases::number_at(n, 0, 20);
     match asked {
-        0 => seconds::seconds(n),
-        1 => shifts::shift_speed(n),
-        2 => shifts::clutch_speed(n),
-        3 => seconds::pair(n),
-        4 => files::put_row(n, said, rows, false),
-        5 => files::tally(n, rows),
-        7 => writing::trace(n),
-        8 => prompting::seconds(n),
-        9 => files::put_row(n, said, rows, true),
-        _ => files::sum(rows),
+        0 => seconds::seconds(rt, n),
+        1 => shifts::shift_speed(rt, n),
+        2 => shifts::clutch_speed(rt, n),
+        3 => seconds::pair(rt, n),
+        4 => files::put_row(rt, n, said, rows, false),
+        5 => files::tally(rt, n, rows),
+        7 => writing::trace(rt, n),
+        8 => prompting::seconds(rt, n),
+        9 => files::put_row(rt, n, said, rows, true),
+        _ => files::sum(rt, rows),
     }
 }
 
-fn lines(text: &[u8]) {
+fn lines(rt: &(impl Files + Print), text: &[u8]) -> io::Result<()> {
     let mut lasting = [0; 802];
     let mut own = [0; 802];
     let mut rows = [165; 3610];
     let mut at = 0;
     while at < text.len() {
-        let line = cases::read_line(text, at, &mut lasting, &mut own);
+        let line = cases::read_line(rt, text, at, &mut lasting, &mut own)?;
         let said = line.said;
         if at < said {
-            show(own, &text[at..said], &mut rows);
+            show(rt, own, &text[at..said], &mut rows)?;
         }
         at = line.end;
     }
+    Ok(())
 }
 
-fn main() {
-    let mut bytes = io::large_buffer();
-    let n = io::read_full(STDIN_FILENO, &mut bytes);
-    lines(&bytes[..n]);
+fn main(rt: HostRuntime) -> io::Result<()> {
+    let mut text = Vec::new(rt.alloc());
+    rt.reader().read_to_end(&mut text)?;
+    lines(&rt, &text)
 }

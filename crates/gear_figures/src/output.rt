@@ -4,30 +4,31 @@ ghost use Rattle.std.specs.Prelude.{◌≤◌, length};
 use outcome::Outcome;
 use print::text;
 use refusal::Judged;
+use std::io;
 
 // A number as `print::filled` takes it.
 pub fn figure(n: u64) -> i64 {
     (n % 9223372036854775808) as i64
 }
 
-fn accepted() {
-    text(b" accepted");
+fn accepted(rt: &impl Print) -> io::Result<()> {
+    text(rt, b" accepted")
 }
 
-fn refused(number: u32, at: u32) {
-    print::filled(b" refused # at #", &[number as i64, at as i64]);
+fn refused(rt: &impl Print, number: u32, at: u32) -> io::Result<()> {
+    print::filled(rt, b" refused # at #", &[number as i64, at as i64])
 }
 
-pub fn told(o: Outcome) {
+pub fn told(rt: &impl Print, o: Outcome) -> io::Result<()> {
     if o.number == 0 {
-        accepted();
+        accepted(rt)
     } else {
-        refused(o.number, o.at);
+        refused(rt, o.number, o.at)
     }
 }
 
-pub fn outcome(judged: Judged) {
-    told(outcome::outcome_of(judged));
+pub fn outcome(rt: &impl Print, judged: Judged) -> io::Result<()> {
+    told(rt, outcome::outcome_of(judged))
 }
 
 fn wide(byte: u8) -> u64
@@ -58,48 +59,50 @@ fn row_sum(row: [u8; 24]) -> i64 {
 }
 
 // What a refused row holds is what it was lent with.
-fn buffer(row: [u8; 24]) {
-    print::filled(b", buffer # #", &[row_sum([165; 24]), row_sum(row)]);
+fn buffer(rt: &impl Print, row: [u8; 24]) -> io::Result<()> {
+    print::filled(rt, b", buffer # #", &[row_sum([165; 24]), row_sum(row)])
 }
 
-pub fn second(gear: u8, clutch: u8) {
-    print::number(wide(gear));
+pub fn second(rt: &impl Print, gear: u8, clutch: u8) -> io::Result<()> {
+    print::number(rt, wide(gear))?;
     if clutch == 1 {
-        text(b" out");
+        text(rt, b" out")?;
     }
+    Ok(())
 }
 
 // The gear of each second, and whether its clutch is out.
-fn gears(row: [u8; 24], count: usize)
+fn gears(rt: &impl Print, row: [u8; 24], count: usize) -> io::Result<()>
     requires { count ≤ 10 }
 {
-    text(b", gears");
+    text(rt, b", gears")?;
     let mut k = 0;
     while k < count {
-        second(row[2 * k], row[2 * k + 1]);
+        second(rt, row[2 * k], row[2 * k + 1])?;
         k += 1;
     }
+    Ok(())
 }
 
-pub fn bytes(buffer: &[u8]) {
-    text(b", bytes");
+pub fn bytes(rt: &impl Print, buffer: &[u8]) -> io::Result<()> {
+    text(rt, b", bytes")?;
     let mut k = 0;
     while k < buffer.len() {
-        print::number(wide(buffer[k]));
+        print::number(rt, wide(buffer[k]))?;
         k += 1;
     }
-    print::end_line();
+    print::end_line(rt)
 }
 
 // The outcome, and then the gears of a few seconds, or the buffer's checksum before and after.
-pub fn row(judged: Judged, row: [u8; 24], count: usize)
+pub fn row(rt: &impl Print, judged: Judged, row: [u8; 24], count: usize) -> io::Result<()>
     requires { count ≤ 10 }
 {
-    outcome(judged);
+    outcome(rt, judged)?;
     if let Judged::Accepted = judged {
-        gears(row, count);
+        gears(rt, row, count)?;
     } else {
-        buffer(row);
+        buffer(rt, row)?;
     }
-    print::end_line();
+    print::end_line(rt)
 }

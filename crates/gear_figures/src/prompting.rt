@@ -9,6 +9,7 @@ use live::Given;
 use print::text;
 use prompt::Received;
 use prompt_crossing::LiveState;
+use std::io;
 
 fn wide(byte: u8) -> u16
     ensures { result ≤ 255 }
@@ -34,39 +35,40 @@ fn count_of(g: Given) -> usize
     (g.count % 6) as usize
 }
 
-fn given(g: Given) {
+fn given(rt: &impl Print, g: Given) -> io::Result<()> {
     let bytes = g.bytes;
     let count = count_of(g);
     let mut k = 0;
     while k < count {
-        output::second(bytes[2 * k], bytes[2 * k + 1]);
+        output::second(rt, bytes[2 * k], bytes[2 * k + 1])?;
         k += 1;
     }
+    Ok(())
 }
 
-fn heard(state: LiveState, trace: &[u8], k: usize) -> LiveState
+fn heard(rt: &impl Print, state: LiveState, trace: &[u8], k: usize) -> io::Result<LiveState>
     requires { 4 * k + 12 ≤ length trace.now }
 {
     let answer = prompt_crossing::second(state, received(trace, k));
-    given(answer.given);
-    text(b";");
-    answer.state
+    given(rt, answer.given)?;
+    text(rt, b";")?;
+    Ok(answer.state)
 }
 
 // A stroke behind each call of a second, then the outcome and what the end gives.
-pub fn seconds(n: [u64; 802]) {
+pub fn seconds(rt: &impl Print, n: [u64; 802]) -> io::Result<()> {
     let trace = trace_in(n, 1);
     let count = count_in(n, 1);
     let mut state = prompt_crossing::begin(word_at(n, 1, 21), vehicle_in(n));
     let mut k = 0;
     while k < count {
-        state = heard(state, &trace, k);
+        state = heard(rt, state, &trace, k)?;
         k += 1;
     }
     let last = prompt_crossing::end(state);
-    output::told(last.outcome);
-    given(last.given);
-    print::end_line();
+    output::told(rt, last.outcome)?;
+    given(rt, last.given)?;
+    print::end_line(rt)
 }
 
 // A byte into the rows, if there is room, and the place behind it.
@@ -98,7 +100,14 @@ fn put(g: Given, rows: &mut [u8; 3610], from: usize) -> usize
 }
 
 // A house file of so many times four bytes, into the rows from a place on.
-pub fn row(trace: &[u8; 4096], fours: usize, n: [u64; 802], rows: &mut [u8; 3610], from: usize)
+pub fn row(
+    rt: &impl Print,
+    trace: &[u8; 4096],
+    fours: usize,
+    n: [u64; 802],
+    rows: &mut [u8; 3610],
+    from: usize,
+) -> io::Result<()>
     requires { (fours ≤ 1024) × (from ≤ 3610) }
 {
     let mut state = prompt_crossing::begin(word_at(n, 1, 21), vehicle_in(n));
@@ -112,6 +121,6 @@ pub fn row(trace: &[u8; 4096], fours: usize, n: [u64; 802], rows: &mut [u8; 3610
     }
     let last = prompt_crossing::end(state);
     put(last.given, rows, at);
-    output::told(last.outcome);
-    print::end_line();
+    output::told(rt, last.outcome)?;
+    print::end_line(rt)
 }

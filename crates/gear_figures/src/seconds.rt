@@ -5,6 +5,7 @@ ghost use Rattle.std.specs.Prelude.{◌≤◌};
 use super::output;
 use super::sheet::vehicle_in;
 use cases::number_at;
+use std::io;
 
 pub fn count_in(n: [u64; 802], block: u32) -> usize
     ensures { result ≤ 10 }
@@ -67,22 +68,22 @@ pub fn trace_in(n: [u64; 802], block: u32) -> [u8; 48] {
     trace
 }
 
-fn speeds(n: [u64; 802], count: usize)
+fn speeds(rt: &impl Print, n: [u64; 802], count: usize) -> io::Result<()>
     requires { count ≤ 10 }
 {
     let mut k: usize = 0;
     while k < count {
-        print::tenths(number_at(n, 1, k as u32 + 2));
+        print::tenths(rt, number_at(n, 1, k as u32 + 2))?;
         k += 1;
     }
-    print::text(b":");
+    print::text(rt, b":")
 }
 
 // The outcome and the gears of a trace.
-fn gears_of(trace: &[u8], n: [u64; 802]) {
+fn gears_of(rt: &impl Print, trace: &[u8], n: [u64; 802]) -> io::Result<()> {
     let mut row = [165; 24];
     let judged = gear::write_gears(trace, vehicle_in(n), &mut row, 0);
-    output::row(judged, row, count_in(n, 1));
+    output::row(rt, judged, row, count_in(n, 1))
 }
 
 fn size_of(n: [u64; 802], block: u32) -> usize
@@ -91,21 +92,21 @@ fn size_of(n: [u64; 802], block: u32) -> usize
     8 + 4 * count_in(n, block)
 }
 
-pub fn seconds(n: [u64; 802]) {
-    speeds(n, count_in(n, 1));
+pub fn seconds(rt: &impl Print, n: [u64; 802]) -> io::Result<()> {
+    speeds(rt, n, count_in(n, 1))?;
     let trace = trace_in(n, 1);
     let size = size_of(n, 1);
-    gears_of(&trace[0..size], n);
+    gears_of(rt, &trace[0..size], n)
 }
 
 // The trace of a pair that the switch at place 21 names, and the gears of what is handed back.
-pub fn pair(n: [u64; 802]) {
+pub fn pair(rt: &impl Print, n: [u64; 802]) -> io::Result<()> {
     let normal = trace_in(n, 1);
     let reduced = trace_in(n, 2);
     let first = size_of(n, 1);
     let second = size_of(n, 2);
     let switch = number_at(n, 0, 21) == 1;
     let chosen = trace::choose(&normal[0..first], &reduced[0..second], switch);
-    print::number(chosen.len() as u64);
-    gears_of(chosen, n);
+    print::number(rt, chosen.len() as u64)?;
+    gears_of(rt, chosen, n)
 }

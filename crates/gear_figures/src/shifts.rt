@@ -8,6 +8,7 @@ use cases::word_at;
 use print::{number, tenths, text};
 use refusal::Judged;
 use shift::Shift;
+use std::io;
 
 // A number of halves to the nearest whole one, halves up.
 fn from_halves(n: u64) -> u64 {
@@ -59,38 +60,38 @@ fn normalised(n: [u64; 802], speed: u64) -> u64 {
     share(speed, word_at(n, 0, 4), word_at(n, 0, 3))
 }
 
-fn road_speeds(lower: u64, upper: u64) {
-    tenths(lower);
-    tenths(upper);
-    text(b" km/h at");
+fn road_speeds(rt: &impl Print, lower: u64, upper: u64) -> io::Result<()> {
+    tenths(rt, lower)?;
+    tenths(rt, upper)?;
+    text(rt, b" km/h at")
 }
 
-fn engine_speeds(lower: u64, upper: u64) {
-    number(engine_speed(lower));
-    number(engine_speed(upper));
-    text(b",");
+fn engine_speeds(rt: &impl Print, lower: u64, upper: u64) -> io::Result<()> {
+    number(rt, engine_speed(lower))?;
+    number(rt, engine_speed(upper))?;
+    text(rt, b",")
 }
 
-fn shares(lower: u64, upper: u64) {
-    tenths(lower);
-    tenths(upper);
-    text(b" per cent\n");
+fn shares(rt: &impl Print, lower: u64, upper: u64) -> io::Result<()> {
+    tenths(rt, lower)?;
+    tenths(rt, upper)?;
+    text(rt, b" per cent\n")
 }
 
 // Places 21 and 22 say where the ndv of the gear stands in which the engine has these speeds, and that of the gear that is left.
-fn speeds(n: [u64; 802], lower: u64, upper: u64) {
+fn speeds(rt: &impl Print, n: [u64; 802], lower: u64, upper: u64) -> io::Result<()> {
     let met = word_at(n, 0, word_at(n, 0, 21));
     let left = word_at(n, 0, word_at(n, 0, 22));
     let first = changed(lower, met, left);
     let second = changed(upper, met, left);
-    road_speeds(road_speed(lower, met), road_speed(upper, met));
-    engine_speeds(first, second);
-    shares(normalised(n, first), normalised(n, second));
+    road_speeds(rt, road_speed(lower, met), road_speed(upper, met))?;
+    engine_speeds(rt, first, second)?;
+    shares(rt, normalised(n, first), normalised(n, second))
 }
 
-fn side_speeds(n: [u64; 802], side: Ends) {
+fn side_speeds(rt: &impl Print, n: [u64; 802], side: Ends) -> io::Result<()> {
     let e = arith::divided(side, 4294967296);
-    speeds(n, print::magnitude(e.lower), print::magnitude(e.upper));
+    speeds(rt, n, print::magnitude(e.lower), print::magnitude(e.upper))
 }
 
 // 01: the downshift speed is that of the upshift two gears below. Gear 1, whose ndv is at place 6, has a side of its own.
@@ -98,24 +99,22 @@ fn side_of(s: Shift, place: u32) -> Ends {
     if place == 6 { s.first } else { s.higher }
 }
 
-pub fn shift_speed(n: [u64; 802]) {
+pub fn shift_speed(rt: &impl Print, n: [u64; 802]) -> io::Result<()> {
     let v = vehicle_in(n);
     let judged = vehicle::judge(v);
     let Judged::Accepted = judged else {
-        output::outcome(judged);
-        return;
+        return output::outcome(rt, judged);
     };
-    side_speeds(n, side_of(shift::shift_of(v), word_at(n, 0, 21)));
+    side_speeds(rt, n, side_of(shift::shift_of(v), word_at(n, 0, 21)))
 }
 
 // 001, table A13-3, and 004, table Ap8-4, "2 to cl": where the clutch goes out, and by equation 2.7 of 004 the downshift 2 to 1.
-pub fn clutch_speed(n: [u64; 802]) {
+pub fn clutch_speed(rt: &impl Print, n: [u64; 802]) -> io::Result<()> {
     let v = vehicle_in(n);
     let judged = vehicle::judge(v);
     let Judged::Accepted = judged else {
-        output::outcome(judged);
-        return;
+        return output::outcome(rt, judged);
     };
     let e = 10 * vehicle::lowest_engine_speed(v);
-    speeds(n, e, e);
+    speeds(rt, n, e, e)
 }

@@ -5,6 +5,7 @@ ghost use Rattle.std.specs.Prelude.{◌≤◌};
 use super::output;
 use super::seconds::flags_of;
 use cases::number_at;
+use std::io;
 
 fn pair_at(n: [u64; 802], k: u32) -> u16 {
     let second = 2 + k / 2;
@@ -38,16 +39,16 @@ fn room(n: [u64; 802]) -> usize
     (number_at(n, 0, 22) % 49) as usize
 }
 
-fn put(seconds: &[u16], buffer: &mut [u8]) {
+fn put(rt: &impl Print, seconds: &[u16], buffer: &mut [u8]) -> io::Result<()> {
     let judged = writer::write_trace(seconds, buffer);
-    output::outcome(judged);
-    output::bytes(buffer);
+    output::outcome(rt, judged)?;
+    output::bytes(rt, buffer)
 }
 
-pub fn trace(n: [u64; 802]) {
+pub fn trace(rt: &impl Print, n: [u64; 802]) -> io::Result<()> {
     let numbers = numbers_in(n);
     let mut buffer = [165; 48];
     let length = lent(n);
     let end = room(n);
-    put(&numbers[0..length], &mut buffer[0..end]);
+    put(rt, &numbers[0..length], &mut buffer[0..end])
 }
