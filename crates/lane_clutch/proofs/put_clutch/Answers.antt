@@ -1,0 +1,19 @@
+-- The loop of `put_clutch`: none is put when it begins, and a turn puts a lane more.
+use mathlib.Core.Path.{ap, ◌∙◌}
+use Prim.Native.Nat.{ℕ, ◌+◌, ◌*◌}
+use native.Mathlib.Omega.{arith}
+use lib.Dec.{eqb}
+use lib.ListN.{set}
+use Rattle.lanes.specs.Lanes.{lane_at}
+use Rattle.lanes.proofs.Lanes.{line-none, line-next}
+use Rattle.lane_clutch.specs.Clutch.{clutched}
+use Rattle.lane_clutch.proofs.put_clutch.Goals as goal
+
+pub loop-j-init : goal.loop-j-init
+loop-j-init c = line-none _ _ _
+
+pub loop-j-preserved : goal.loop-j-preserved
+loop-j-preserved c =
+    line-next c.loop-j.invariant (omega arith)
+    (ap (set c.loop-j.lanes (16 * c.args.k + c.loop-j.j))
+    (c.clutched.ensures ∙ ap (λ (n : ℕ). clutched (eqb n 0) (lane_at c.loop-j.lanes c.loop-j.j c.args.k)) c.drives-driven.ensures))
