@@ -59,6 +59,7 @@ fn judge_marks(v: VehicleSheet, trace: &[u8], n: usize) -> Judged
 }
 
 // Refusals 1 to 7, 20 and 8.
+#[tactic(auto, unfolding(crate::specs::Sheet::judge_sheet))]
 fn judge_sheet(trace: &[u8], v: VehicleSheet, room: usize, start: usize) -> Judged
     ensures { result ≡ judge_sheet trace.now v room start }
 {

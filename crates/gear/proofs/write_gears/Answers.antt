@@ -1,0 +1,50 @@
+-- On a refusal nothing is stored, and else the part from the start comes back with the row at its front.
+use Rattle.std.proofs.Common.{◌∙◌, sym, ap, List, ℕ, ◌++◌, take, length-take, length-drop, arith}
+use Rattle.house.specs.House.{count_of}
+use Rattle.refusal.specs.Judging.{if_accepted}
+use Rattle.gear.specs.Sheet.{with_row}
+use Rattle.gear.proofs.Buffer.{part-whole, part-back}
+use Rattle.gear.proofs.Sheet.{sheet-sound, sheet-ready, answer-by, buffer-refused, buffer-back}
+use Rattle.gear.proofs.write_gears.Goals as goal
+
+pub returns-in_default : goal.returns-in_default
+returns-in_default c =
+    let a = c.args in
+    let trace = a.trace.now in
+    let buffer = a.buffer.now in
+    let refused = c.in_default.is in
+    let e = answer-by trace a.v buffer a.start (sym c.judge_sheet-judged.ensures ∙ refused) in
+    (refused ∙ sym e, buffer-refused trace a.v buffer a.start e)
+
+pub count_of-n-requires : goal.count_of-n-requires
+count_of-n-requires c =
+    let sound = sheet-sound _ _ _ _ (sym c.judge_sheet-judged.ensures ∙ c.in-Accepted.is) in
+    omega (arith, sound.of_trace.exact)
+
+pub slice_bounds-fill-count : goal.slice_bounds-fill-count
+slice_bounds-fill-count c = (sheet-sound _ _ _ _ (sym c.judge_sheet-judged.ensures ∙ c.in-Accepted.is)).from
+
+pub slice_bounds-fill-start : goal.slice_bounds-fill-start
+slice_bounds-fill-start c =
+    let sound = sheet-sound _ _ _ _ (sym c.judge_sheet-judged.ensures ∙ c.in-Accepted.is) in
+    omega (arith, sound.from)
+
+pub fill-requires : goal.fill-requires
+fill-requires c =
+    let sound = sheet-sound _ _ _ _ (sym c.judge_sheet-judged.ensures ∙ c.in-Accepted.is) in
+    let n = c.count_of-n.ensures.0 in
+    (sound.of_vehicle, rw n (sheet-ready sound), simp (length-take, length-drop) (omega (arith, n, sound.from, sound.fits)))
+
+pub returns : goal.returns
+returns c =
+    let a = c.args in
+    let trace = a.trace.now in
+    let buffer = a.buffer.now in
+    let n = c.count_of-n.ensures.0 in
+    let close = rw n at c.fill.ensures.0 in
+    let answer = close ∙ sym (answer-by trace a.v buffer a.start (sym c.judge_sheet-judged.ensures ∙ c.in-Accepted.is)) in
+    let filled = rw n at c.fill.ensures.1 in
+    let row_in : List ℕ → List ℕ = λ part. if_accepted c.fill.result (with_row a.v trace (count_of trace) part) part in
+    let part = filled ∙ ap row_in (part-whole buffer a.start) in
+    let back = part-back buffer c.fill.new.part a.start ∙ ap (λ (l : List ℕ). take a.start buffer ++ l) part in
+    (answer, back ∙ buffer-back trace a.v buffer a.start answer)
