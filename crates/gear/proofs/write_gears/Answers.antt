@@ -22,7 +22,9 @@ count_of-n-requires c =
     omega (arith, sound.of_trace.exact)
 
 pub slice_bounds-fill-count : goal.slice_bounds-fill-count
-slice_bounds-fill-count c = (sheet-sound _ _ _ _ (sym c.judge_sheet-judged.ensures ∙ c.in-Accepted.is)).from
+slice_bounds-fill-count c =
+    let sound = sheet-sound _ _ _ _ (sym c.judge_sheet-judged.ensures ∙ c.in-Accepted.is) in
+    omega (arith, sound.from)
 
 pub slice_bounds-fill-start : goal.slice_bounds-fill-start
 slice_bounds-fill-start c =
