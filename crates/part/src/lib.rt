@@ -39,6 +39,7 @@ pub fn is_diluted(triple: Triple, bag: Gases) -> bool
 }
 
 // What the stages take of what was read: the fifth gas in the place of the reading behind the cutter, or nothing where the test has none.
+#[tactic(auto, unfolding(sides::specs::Gases::each, crate::specs::Part::with_nmhc))]
 fn with_nmhc(c: Cutter, read: Gases) -> Gases
     requires { StagedRanges c read }
     ensures { result ≡ with_nmhc c read }
@@ -57,6 +58,7 @@ fn with_nmhc(c: Cutter, read: Gases) -> Gases
     }
 }
 
+#[tactic(auto, unfolding(crate::specs::Part::staged_of))]
 fn staged(c: Cutter, sides: Sides) -> Sides
     requires { (StagedRanges c sides.bag) × (StagedRanges c sides.air) }
     ensures { result ≡ staged_of c sides }
@@ -67,6 +69,7 @@ fn staged(c: Cutter, sides: Sides) -> Sides
     }
 }
 
+#[tactic(auto, unfolding(crate::specs::Part::gas_mass))]
 fn gas_mass(volume: Ends, bag: Ends, air: Ends, g: Ends, q: u32, density: u32) -> Ends
     requires { GasRanges volume bag air g q density }
     ensures { result ≡ gas_mass volume bag air g q density }
@@ -75,6 +78,7 @@ fn gas_mass(volume: Ends, bag: Ends, air: Ends, g: Ends, q: u32, density: u32) -
     stage::mass(stage::gas_volume(volume, concentration), density)
 }
 
+#[tactic(auto, unfolding(sides::specs::Gases::each, crate::specs::Part::masses_of))]
 fn masses(volume: Ends, sides: Sides, g: Ends, q: u32, density: Densities) -> Gases
     requires { MassesRanges volume sides g q density }
     ensures { result ≡ masses_of volume sides g q density }
@@ -91,6 +95,7 @@ fn masses(volume: Ends, sides: Sides, g: Ends, q: u32, density: Densities) -> Ga
 }
 
 // Kh is for NOx alone.
+#[tactic(auto, unfolding(crate::specs::Part::corrected_for, sides::specs::Gases::each))]
 fn corrected_for(kh: Ends, mass: Gases) -> Gases
     requires { (DryMassSizes mass) × (Sized largest_kh kh) }
     ensures { result ≡ corrected_for kh mass }
@@ -109,6 +114,7 @@ fn corrected_for(kh: Ends, mass: Gases) -> Gases
     }
 }
 
+#[tactic(auto, unfolding(sides::specs::Gases::each, crate::specs::Part::rates_of))]
 fn rates(mass: Gases, distance: u32) -> Gases
     requires { RatesRanges mass distance }
     ensures { result ≡ rates_of mass distance }
@@ -143,6 +149,7 @@ pub fn is_dry_enough(p: Part) -> bool
     stage::humidity_good(p.humidity, p.saturation, p.barometer)
 }
 
+#[tactic(auto, unfolding(crate::specs::Part::mass_in))]
 fn mass_in(triple: Triple, c: Cutter, p: Part, sides: Sides) -> Gases
     requires { PartRanges triple c p sides }
     ensures { result ≡ mass_in triple c p sides }
@@ -154,6 +161,7 @@ fn mass_in(triple: Triple, c: Cutter, p: Part, sides: Sides) -> Gases
     corrected_for(kh, dry)
 }
 
+#[tactic(auto, unfolding(crate::specs::Part::part_of))]
 pub fn part_of(triple: Triple, c: Cutter, p: Part, sides: Sides) -> PartResult
     requires { PartRanges triple c p sides }
     ensures { result ≡ part_of triple c p sides }
