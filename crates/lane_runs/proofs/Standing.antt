@@ -8,7 +8,7 @@ use borrow.Author.Tests.{eq-eqb, ne_eqb, eqb-true, eqb-false, lt-ltb, le-ltb}
 use lib.Dec.{eqb, ltb}
 use Rattle.house.specs.House.{stop, no_first}
 use Rattle.live.specs.declared.Pending.{Pending}
-use Rattle.live.specs.Live.{mark_of, has_mark, stays, opened, longer, takes_over, reach, pending_after}
+use Rattle.live.specs.Live.{mark_of, has_mark, opened, longer, takes_over, reach, pending_after}
 use Rattle.live.proofs.Judged.{right-false}
 use Rattle.live.proofs.Cases.{
   mark-of,
