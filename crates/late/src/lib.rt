@@ -58,6 +58,7 @@ fn third_humidity(class: u32, third: Part, rest: Judged) -> Judged
 }
 
 // Refusals 13, 14 and 19, each over all parts before the next.
+#[tactic(auto, unfolding(crate::specs::Late::late_checks))]
 pub fn judge(s: BagSheet, c: Cutter, r: TestSides) -> Judged
     requires { LateRanges s c r }
     ensures { result ≡ judge_late s c r }
