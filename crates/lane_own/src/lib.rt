@@ -35,6 +35,7 @@ fn without(all: u16, top: u16) -> u16
     if all < top { 0 } else { all - top }
 }
 
+#[tactic(auto, unfolding(crate::specs::Own::own_lane))]
 fn own_gear(tables: &[u16], accelerating: bool, speed: u16, j: usize) -> u8
     requires { (144 ≤ length tables.now) × (j < 16) }
     ensures { result ≡ own_lane tables.now accelerating speed j }
