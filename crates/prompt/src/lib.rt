@@ -47,6 +47,7 @@ pub struct Ended {
 }
 
 // Refusals 1 and 5 to 7.
+#[tactic(auto, unfolding(crate::specs::Prompt::judge_begin))]
 pub fn judge_begin(version: u32, v: VehicleSheet) -> Judged
     ensures { result ≡ judge_begin version v }
 {
@@ -79,6 +80,7 @@ fn may_be(e: Engine, s: Received) -> bool
 }
 
 // Refusals 2, 4, 20 and 9.
+#[tactic(auto, unfolding(crate::specs::Prompt::judge_second))]
 fn judge_second(e: Engine, s: Received) -> Judged
     ensures { result ≡ judge_second e s }
 {
@@ -102,6 +104,7 @@ fn judge_second(e: Engine, s: Received) -> Judged
 }
 
 // The engine with a second more.
+#[tactic(auto, unfolding(crate::specs::Prompt::judge_second))]
 fn take(e: Engine, s: Received) -> Engine
     requires { judge_second e s ≡ Accepted }
     ensures { result ≡ after e s }
@@ -118,6 +121,7 @@ fn take(e: Engine, s: Received) -> Engine
 }
 
 // A second. A refused one leaves the engine as it was.
+#[tactic(auto, unfolding(crate::specs::Prompt::heard))]
 pub fn hear(e: Engine, s: Received) -> Heard
     ensures { result ≡ heard e s }
 {
@@ -137,6 +141,7 @@ pub fn hear(e: Engine, s: Received) -> Heard
 }
 
 // The end of the trace. Refusal 2 where no second was received.
+#[tactic(auto, unfolding(crate::specs::Prompt::ended, crate::specs::Prompt::judge_end))]
 pub fn end(e: Engine) -> Ended
     ensures { result ≡ ended e }
 {
