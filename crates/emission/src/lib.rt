@@ -61,6 +61,7 @@ pub fn no_part() -> PartResult
     }
 }
 
+#[tactic(auto, unfolding(crate::specs::Test::third_part))]
 fn third_part(s: BagSheet, c: Cutter, sides: Sides) -> PartResult
     requires { s.class ≡ 3 → PartRanges s.triple c s.third sides }
     ensures { result ≡ third_part s c sides }
@@ -72,6 +73,7 @@ fn third_part(s: BagSheet, c: Cutter, sides: Sides) -> PartResult
     no_part()
 }
 
+#[tactic(auto, unfolding(crate::specs::Test::parts_in))]
 fn parts_in(s: BagSheet, c: Cutter, r: TestSides) -> Parts
     requires { PartsRanges s c r }
     ensures { result ≡ parts_in s c r }
@@ -83,6 +85,7 @@ fn parts_in(s: BagSheet, c: Cutter, r: TestSides) -> Parts
     }
 }
 
+#[tactic(auto, unfolding(sides::specs::Gases::each, crate::specs::Test::weighted_gases))]
 fn weighted_gases(w: Weights, first: Gases, second: Gases, third: Gases) -> Gases
     requires { WeighRanges w first second third }
     ensures { result ≡ weighted_gases w first second third }
@@ -97,6 +100,7 @@ fn weighted_gases(w: Weights, first: Gases, second: Gases, third: Gases) -> Gase
 }
 
 // The fifth gas's verdict, where the test has it.
+#[tactic(auto, unfolding(crate::specs::Test::nmhc_verdict))]
 fn nmhc_verdict(has_nmhc: bool, rate: Ends, limit: u64) -> Verdict
     requires { limit ≤ most_limit }
     ensures { result ≡ nmhc_verdict has_nmhc rate limit }
@@ -107,6 +111,7 @@ fn nmhc_verdict(has_nmhc: bool, rate: Ends, limit: u64) -> Verdict
     Verdict::NoVerdict
 }
 
+#[tactic(auto, unfolding(crate::specs::Test::each_verdict, crate::specs::Test::verdicts_of))]
 fn verdicts_of(has_nmhc: bool, weighted: Gases, limits: Limits) -> Verdicts
     requires { RangedLimits limits }
     ensures { result ≡ verdicts_of has_nmhc weighted limits }
@@ -136,6 +141,7 @@ fn fuel_in(f: Fuel, weighted: Gases) -> Ends
     )
 }
 
+#[tactic(auto, unfolding(crate::specs::Test::result_of))]
 fn result_of(s: BagSheet, has_nmhc: bool, parts: Parts) -> TestResult
     requires { ResultRanges s parts }
     ensures { result ≡ result_of s has_nmhc parts }
@@ -152,6 +158,7 @@ fn result_of(s: BagSheet, has_nmhc: bool, parts: Parts) -> TestResult
 }
 
 // The full result of a test, or its first refusal: 10 and 11, then 12, then 13, 14 and 19.
+#[tactic(auto, unfolding(crate::specs::Test::read_answer, crate::specs::Test::test_answer))]
 pub fn test(s: BagSheet) -> Answer
     ensures { result ≡ test_answer s }
 {
