@@ -20,6 +20,7 @@ pub struct SpeedsOutcome {
     pub first: Ends,
 }
 
+#[tactic(auto, unfolding(crate::specs::Speeds::no_speeds))]
 fn no_speeds(outcome: Outcome) -> SpeedsOutcome
     ensures { result ≡ no_speeds outcome }
 {
@@ -31,6 +32,7 @@ fn no_speeds(outcome: Outcome) -> SpeedsOutcome
     }
 }
 
+#[tactic(auto, unfolding(crate::specs::Speeds::speeds_out))]
 pub fn speeds_out(vehicle: VehicleSheet) -> SpeedsOutcome
     ensures { result ≡ speeds_out vehicle }
 {
@@ -60,6 +62,7 @@ pub struct TenthsOutcome {
     pub first: u32,
 }
 
+#[tactic(auto, unfolding(crate::specs::ShiftTenths::no_tenths))]
 fn no_tenths(outcome: Outcome) -> TenthsOutcome
     ensures { result ≡ no_tenths outcome }
 {
@@ -85,6 +88,7 @@ fn wide(least: [u16; 7]) -> [u32; 7]
     wide
 }
 
+#[tactic(auto, unfolding(walk::specs::Walk::listed, tenths::specs::Least::tenths_of, crate::specs::ShiftTenths::tenths_out))]
 pub fn tenths_out(vehicle: VehicleSheet) -> TenthsOutcome
     ensures { result ≡ tenths_out vehicle }
 {
