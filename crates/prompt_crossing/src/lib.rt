@@ -63,6 +63,7 @@ fn no_engine() -> Engine
 }
 
 // Refusals 1 and 5 to 7, or a state with nothing received.
+#[tactic(auto, unfolding(crate::specs::State::begin_out, prompt::specs::Prompt::judge_begin))]
 pub fn begin(version: u32, v: VehicleSheet) -> LiveState
     ensures { result ≡ begin_out version v }
 {
@@ -80,6 +81,7 @@ pub fn begin(version: u32, v: VehicleSheet) -> LiveState
 }
 
 // A second: refusals 2, 4, 20 and 9, or the state with it and what is given. A state that was refused stays so.
+#[tactic(auto, unfolding(crate::specs::State::second_out))]
 pub fn second(state: LiveState, s: Received) -> LiveAnswer
     ensures { result ≡ second_out state s }
 {
@@ -104,6 +106,7 @@ pub fn second(state: LiveState, s: Received) -> LiveAnswer
 }
 
 // The end: refusal 2, or what is left.
+#[tactic(auto, unfolding(crate::specs::State::end_out))]
 pub fn end(state: LiveState) -> LiveEnd
     ensures { result ≡ end_out state }
 {
