@@ -39,6 +39,7 @@ fn verdict_number(v: Verdict) -> u32
     }
 }
 
+#[tactic(auto, unfolding(crate::specs::Record::each_number, crate::specs::Record::verdict_numbers))]
 fn verdict_numbers(v: Verdicts) -> VerdictNumbers
     ensures { result ≡ verdict_numbers v }
 {
