@@ -55,6 +55,7 @@ fn has_nmhc(r: Record) -> bool
 }
 
 // Refusal 21. The fifth gas is read only where it is there.
+#[tactic(auto, unfolding(crate::specs::Lot::faulty))]
 fn is_faulty(r: Record) -> bool
     ensures { result ≡ faulty r }
 {
@@ -75,6 +76,7 @@ fn added_if(has: bool, at: u32, ends: Ends, verdict: u32, t: Tally) -> Tally
     t
 }
 
+#[tactic(auto, unfolding(crate::specs::Kept::each_tally, crate::specs::Kept::with_record))]
 fn with_record(at: u32, r: Record, t: Tallies) -> Tallies
     requires { (Sound r) × (RoomyAll 255 t) }
     ensures { result ≡ with_record at r t }
@@ -91,6 +93,7 @@ fn with_record(at: u32, r: Record, t: Tallies) -> Tallies
 }
 
 // One record more, before the others: its fault comes before theirs.
+#[tactic(auto, unfolding(crate::specs::Kept::joined_to))]
 pub fn joined(at: usize, r: Record, after: Running) -> Running
     requires { (at < 256) × (RoomyRun 255 after) }
     ensures { result ≡ joined_to at r after }
@@ -105,6 +108,7 @@ pub fn joined(at: usize, r: Record, after: Running) -> Running
     }
 }
 
+#[tactic(auto, unfolding(crate::specs::Kept::each_tally, crate::specs::Kept::nothing))]
 pub fn no_records() -> Running
     ensures { result ≡ nothing }
 {
@@ -124,6 +128,7 @@ pub fn records_read(n: usize) -> usize
     if n <= 256 { n } else { 0 }
 }
 
+#[tactic(auto, unfolding(crate::specs::Lot::each_sheet, crate::specs::Kept::sheet_by))]
 fn sheet_by(t: Tallies) -> LotSheet
     requires { RoomyAll 256 t }
     ensures { result ≡ sheet_by t }
@@ -138,6 +143,7 @@ fn sheet_by(t: Tallies) -> LotSheet
 }
 
 // What a list of n records is answered with, from what was kept of those that were read: 18, then 21, or the sheet.
+#[tactic(auto, unfolding(crate::specs::Kept::finished_by))]
 pub fn finished(n: usize, running: Running) -> LotAnswer
     requires { RoomyRun 256 running }
     ensures { result ≡ finished_by n running }
