@@ -91,6 +91,7 @@ fn message_of(r: MessageNumbers) -> Message
     }
 }
 
+#[tactic(auto, unfolding(crate::specs::Sheet::bag_of))]
 fn bag_of(r: BagNumbers) -> Bag
     ensures { result ≡ bag_of r }
 {
@@ -103,6 +104,7 @@ fn bag_of(r: BagNumbers) -> Bag
     }
 }
 
+#[tactic(auto, unfolding(crate::specs::Sheet::sheet_part_of))]
 fn sheet_part_of(p: SheetPart) -> Part
     ensures { result ≡ sheet_part_of p }
 {
@@ -122,6 +124,7 @@ fn sheet_part_of(p: SheetPart) -> Part
     }
 }
 
+#[tactic(auto, unfolding(crate::specs::Sheet::sheet_of))]
 pub fn sheet_of(s: Sheet) -> BagSheet
     ensures { result ≡ sheet_of s }
 {
@@ -142,6 +145,7 @@ pub fn sheet_of(s: Sheet) -> BagSheet
     }
 }
 
+#[tactic(auto, unfolding(crate::specs::Sheet::with_nothing))]
 fn with_nothing(outcome: Outcome) -> TestOutcome
     ensures { result ≡ with_nothing outcome }
 {
