@@ -1,4 +1,4 @@
--- Where a turn of the loop of `lot_sheet` begins, and what is kept by then: the facts about lists that its walk asks for. Assumes nothing.
+-- Where a turn of the loop of `lot_sheet` begins, and what is kept by then: the facts about lists that its proof asks for. Assumes nothing.
 use mathlib.Core.Path.{◌≡◌, refl, ap, sym, ◌∙◌}
 use mathlib.Core.Bool.{Bool, true, false, cond}
 use mathlib.Core.List.{List, [], ◌∷◌}

@@ -1,5 +1,5 @@
-// The lot sheet (02, M-105): the lent list of records, from the last to the first, so that one record more stands before those already kept. The borrow checker
-// covers no function over a slice of structs: this one alone reads the list, and its proof is a walk by hand. Each record goes by value to lot.
+// The lot sheet (02, M-105): the lent list of records, from the last to the first, so that one record more stands before those already kept. This function
+// alone reads the list. Each record goes by value to lot.
 #![tactic(auto)]
 
 ghost use Rattle.std.specs.Prelude.{◌≡◌};
