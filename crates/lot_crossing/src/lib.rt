@@ -33,6 +33,7 @@ pub struct LotOutcome {
     pub nmhc: LotGas,
 }
 
+#[tactic(auto, unfolding(crate::specs::Lot::gas_out))]
 fn gas_out(g: GasSheet) -> LotGas
     ensures { result ≡ gas_out g }
 {
@@ -58,6 +59,7 @@ fn gas_out(g: GasSheet) -> LotGas
     }
 }
 
+#[tactic(auto, unfolding(crate::specs::Lot::sheet_out))]
 fn sheet_out(s: LotSheet) -> LotOutcome
     ensures { result ≡ sheet_out s }
 {
@@ -71,6 +73,7 @@ fn sheet_out(s: LotSheet) -> LotOutcome
     }
 }
 
+#[tactic(auto, unfolding(crate::specs::Lot::no_gas))]
 fn no_gas() -> LotGas
     ensures { result ≡ no_gas }
 {
@@ -84,6 +87,7 @@ fn no_gas() -> LotGas
     }
 }
 
+#[tactic(auto, unfolding(crate::specs::Lot::refused_out))]
 fn refused_out(refusal: Refusal) -> LotOutcome
     ensures { result ≡ refused_out refusal }
 {
