@@ -13,6 +13,7 @@ use tenths::Tenths;
 use vehicle::VehicleSheet;
 
 // The sheet of vehicle i.
+#[tactic(auto, unfolding(crate::specs::Plan::sheet_at))]
 fn sheet_at(sheets: &[u32], i: usize) -> VehicleSheet
     requires { 14 * i + 14 ≤ length sheets.now }
     ensures { result ≡ sheet_at sheets.now i }
@@ -38,6 +39,7 @@ fn sheet_at(sheets: &[u32], i: usize) -> VehicleSheet
     }
 }
 
+#[tactic(auto, unfolding(crate::specs::Lanes::table_at))]
 fn table_at(v: VehicleSheet, t: Tenths, i: usize) -> u16
     requires { (Sound v) × (i < 18) }
     ensures { result ≡ table_at v t i }
@@ -242,6 +244,7 @@ fn judge_room(width: usize, sheets: usize, rows: usize, answers: usize) -> Judge
 }
 
 // Refusals 1 to 4, and 8.
+#[tactic(auto, unfolding(crate::specs::Plan::judge_plan))]
 fn judge_plan(trace: &[u8], sheets: usize, rows: usize, answers: usize) -> Judged
     ensures { result ≡ judge_plan trace.now sheets rows answers }
 {
