@@ -82,3 +82,8 @@ module _ {humidity saturation barometer : ℕ} (r : KhRanges humidity saturation
       365030 * dry_of humidity saturation barometer
       ≤ 1352030 * dry_of humidity saturation barometer - 20434190 * vapour_of humidity saturation
   divisor-least = omega (arith, humid)
+
+-- so the divisor is not below zero
+pub divisor_is_whole : (humidity saturation barometer : ℕ) → KhRanges humidity saturation barometer →
+    20434190 * vapour_of humidity saturation ≤ 1352030 * dry_of humidity saturation barometer
+divisor_is_whole humidity saturation barometer r = omega (arith, humid r)

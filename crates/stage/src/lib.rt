@@ -134,7 +134,7 @@ pub fn humidity_good(humidity: u32, saturation: u32, barometer: u32) -> bool
 }
 
 // The humidity's correction, in 1/65,536.
-#[tactic(auto, unfolding(crate::specs::Part::kh_of))]
+#[tactic(auto, using(crate::proofs::Steps::divisor_is_whole), unfolding(crate::specs::Part::kh_of))]
 pub fn kh(humidity: u32, saturation: u32, barometer: u32) -> Ends
     requires { KhRanges humidity saturation barometer }
     ensures { result ≡ kh_of humidity saturation barometer }

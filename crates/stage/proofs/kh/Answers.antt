@@ -1,16 +1,12 @@
 -- A humidity of at most 30 leaves a divisor above zero.
-use native.Mathlib.Omega.{arith}
 use mathlib.Core.Path.{◌∙◌}
 use mir.Syntax.{w64}
 use mir.Val.{SFits}
 use mir.ValLaws.{to_z-of_z}
 use borrow.Author.Rules.{rules}
 use Rattle.arith.proofs.Parts.{zs}
-use Rattle.stage.proofs.Steps.{vapour-most, humid, divisor-least}
+use Rattle.stage.proofs.Steps.{vapour-most, divisor-least}
 use Rattle.stage.proofs.kh.Goals as goal
-
-pub overflow_sub-b : goal.overflow_sub-b
-overflow_sub-b c = simp (c.vapour-g.ensures, c.dry-b.ensures) (omega (arith, humid c.requires))
 
 pub divided-requires : goal.divided-requires
 divided-requires c =
