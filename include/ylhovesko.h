@@ -1,7 +1,7 @@
 /*
  * Ylhovesko: the calculation core for motorcycle emission benches, as C calls it.
  *
- * Link target/staticlib/libboundary.a, which `rt staticlib boundary` makes. It is x86-64 code: ELF, with the System V calling convention. It keeps
+ * Link target/staticlib/libboundary.a, which `host/archive` makes. It is x86-64 code: ELF, with the System V calling convention. It keeps
  * nothing between calls, allocates nothing and calls nothing but memset and memcpy, so any number of threads may call it at once. A call takes at
  * most 12 KiB of stack, and ylhovesko_plan at most 44 KiB, with what the loader takes of it where it looks for memset and memcpy in the first call.
  *

@@ -13,7 +13,7 @@ fn main() {
     let native = var("YLHOVESKO_NATIVE").ok();
     let archives = native.as_ref().map_or(host.join("../target/staticlib"), PathBuf::from);
     let archive = archives.join("libboundary.a");
-    assert!(archive.exists(), "no {}: run `rt staticlib boundary` first", archive.display());
+    assert!(archive.exists(), "no {}: run `host/archive` first", archive.display());
     println!("cargo:rerun-if-changed={}", archive.display());
     if native.is_some() || var("CARGO_CFG_TARGET_ARCH").unwrap() == "x86_64" {
         println!("cargo:rustc-cfg=linked");
