@@ -1,9 +1,9 @@
 -- Of every accepted plan: each vehicle has what the gear sheet gives it by itself, and nothing else is changed. Assumes nothing.
-use mathlib.Core.Path.{◌≡◌, refl, sym, ap, ◌∙◌}
+use mathlib.Core.Path.{◌≡◌, sym, ap, ◌∙◌}
 use mathlib.Core.List.{List, ◌++◌}
 use Prim.Native.Nat.{ℕ, ◌+◌, ◌*◌, ◌<◌, ◌≤◌}
 use native.Mathlib.Omega.{arith}
-use lib.ListN.{length, get_or, take, drop, length-drop}
+use lib.ListN.{length, get_or, drop, length-drop}
 use lib.Seq.{length-take-le}
 use Rattle.refusal.specs.declared.Judged.{Judged}
 use Rattle.refusal.specs.declared.Judged.TheVariants.{Accepted}
@@ -12,10 +12,10 @@ use Rattle.house.specs.House.{count_of}
 use Rattle.gear.specs.Sheet.{row_of, gear_answer, gear_buffer}
 use Rattle.gear.proofs.Buffer.{exact}
 use Rattle.outcome.specs.Outcome.{outcome_of}
-use Rattle.plan.specs.Plan.{sheet_at, vehicles_in, row_bytes, judge_plan, plan_answers, plan_rows}
+use Rattle.plan.specs.Plan.{sheet_at, vehicles_in, row_bytes, judge_plan}
 use Rattle.plan.specs.Lanes.{vehicle_answer}
 use Rattle.plan.proofs.Places.{next_place, places-rise}
-use Rattle.plan.proofs.Whole.{row-long, answer-is, buffer-is, up-to-long, trace-accepted, room-tells, rows_written, answers-written}
+use Rattle.plan.proofs.Whole.{answer-is, buffer-is, up-to-long, trace-accepted, room-tells, rows_written, answers-written}
 use Rattle.plan.proofs.Parts.{part-is, rest-kept, answers_long, answers_rest, answer-given}
 use Rattle.claims.specs.Plans.{part_of, ByItself, Untouched}
 

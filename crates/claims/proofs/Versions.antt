@@ -3,7 +3,7 @@
 use mathlib.Core.Path.{◌≡◌, sym, ap, ◌∙◌}
 use mathlib.Core.Bool.{Bool, true, false, cond, ◌&&◌}
 use mathlib.Core.List.{List, ◌++◌}
-use Prim.Native.Nat.{ℕ, ◌+◌, ◌*◌, ◌%◌, ◌<◌}
+use Prim.Native.Nat.{ℕ, ◌*◌, ◌%◌, ◌<◌}
 use native.Mathlib.Omega.{arith}
 use lib.ListN.{length, take, drop}
 use lib.Dec.{eqb}
@@ -16,7 +16,7 @@ use Rattle.refusal.proofs.Ranges.{both, range}
 use Rattle.house.specs.House.{headed, version_of, allows, count_of, speed_at, flags_at, zero_at, marked, second_good}
 use Rattle.house.proofs.Versions.{allowed-second, good-second, parts-good, phase-unmarked}
 use Rattle.house.proofs.Written.{file-length, file-version, file-count, file-speed, file-flags, file-zero}
-use Rattle.trace.specs.Judging.{countable, judge_seconds, judge_trace}
+use Rattle.trace.specs.Judging.{countable, judge_trace}
 use Rattle.trace.specs.Versions.{in_version2, Plain}
 use Rattle.trace.proofs.Sound.{seconds-good, accepted-by}
 use Rattle.trace.proofs.Versions.{flags-same, speeds-same, count_same, judged-same, marks-same}

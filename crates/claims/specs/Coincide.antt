@@ -17,8 +17,8 @@ Coincide n ps r Pre Post =
     Post κs a y (at_exit (ended_of n ps r) κs a vs) →
     (x ≡ y) × (ws ≡ vs)
 
--- The same of a function over a slice of structs, whose proof is a walk by hand: the toolchain makes no `Pre` and `Post` of it, so it is said of the contract's own
--- clause, which speaks of the result and of the list at the end. The clause states a plain fact, which only one result and one last contents have.
+-- The same of a function over a slice of structs, said of the contract's own clause, which speaks of the result and of the list at the end. The clause states
+-- a plain fact, which only one result and one last contents have.
 pub record Fixes {M : Type 1} (𝓤 : Ura M) {R T : Type 0} (clause : R → Bor (List T) → SProp 𝓤) : Type 2 where
   pub says : R → Bor (List T) → Type 0
   pub stated : (x : R) (end : Bor (List T)) → clause x end ≡ fact 𝓤 (says x end)
