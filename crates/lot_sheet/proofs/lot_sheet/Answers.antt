@@ -15,14 +15,14 @@ pub joined-running-requires : goal.joined-running-requires
 joined-running-requires c =
     let b = read-bounds (length c.args.records.now) in
     let t = c.loop-i.invariant in
-    (omega arith, rw t.is (kept_less c.args.records.now c.loop-i.i c.loop-i-test.true))
+    (omega arith, rw t.is (kept_less c.args.records.now c.loop-i.i (omega arith)))
 
 pub loop-i-preserved : goal.loop-i-preserved
 loop-i-preserved c = record {
   within = omega arith;
   is =
       rw c.loop-i.invariant.is at c.joined-running.ensures
-      ∙ kept-before c.args.records.now c.loop-i.i c.loop-i-test.true c.loop-i.invariant.within;
+      ∙ kept-before c.args.records.now c.loop-i.i (omega arith) c.loop-i.invariant.within;
 }
 
 pub finished-requires : goal.finished-requires
