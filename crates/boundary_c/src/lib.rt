@@ -1,4 +1,4 @@
-// The archive that a bench links: each function of the library boundary, under its name and by its clauses, as C calls it. What it does is said there.
+// What a bench links: each function of the library boundary under its name, by its clauses, as C calls it. What it does is said there.
 #![tactic(auto)]
 
 ghost use Rattle.std.specs.Prelude.{◌≡◌, length};
@@ -97,11 +97,12 @@ pub extern "C" fn ylhovesko_turn(draft: &[u8], buffer: &mut [u8]) -> Outcome
     boundary::ylhovesko_turn(draft, buffer)
 }
 
+// The state is made as boundary has it made, and not by way of boundary: with that call between, more stack would be taken than the header says.
 #[unsafe(no_mangle)]
 pub extern "C" fn ylhovesko_live_begin(version: u32, vehicle: VehicleSheet) -> LiveState
     ensures { result ≡ begin_out version vehicle }
 {
-    boundary::ylhovesko_live_begin(version, vehicle)
+    prompt_crossing::begin(version, vehicle)
 }
 
 #[unsafe(no_mangle)]

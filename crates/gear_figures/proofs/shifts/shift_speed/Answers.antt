@@ -1,5 +1,5 @@
 -- A sheet that is accepted is sound.
-use Rattle.std.proofs.Common.{sym, ◌∙◌}
+use Rattle.std.proofs.Common.{sym}
 use Rattle.vehicle.proofs.Sound.{accepted-sound}
 use Rattle.gear_figures.proofs.shifts.shift_speed.Goals as goal
 
