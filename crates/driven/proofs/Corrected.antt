@@ -18,12 +18,13 @@ use Rattle.own.specs.Own.{own_second, own_at}
 use Rattle.row.proofs.Passes.{cap-length, pass-length}
 use Rattle.row.proofs.Ranges.{FromTo}
 use Rattle.phase.proofs.Stops.{first-length}
+use Rattle.driven.proofs.Gears.{Set1Range}
 use Rattle.driven.proofs.Seconds.{first-second, cap-second, pass-second}
 use Rattle.driven.proofs.Smoothing.{Fit, pass-near, smoothed-fit}
 
 -- ---- the gears that the shift speeds give
 module _ (s : Shift) (enough : 3 ≤ s.gears) where
-  set-1-range : (accelerates : Bool) (speed : ℕ) → FromTo 1 s.gears (by_set1 s accelerates speed).gear
+  set-1-range : Set1Range s
   unfolding by_set1 tally_of
   set-1-range true speed =
       let few = count_most (above_at s.first s.higher s.ndv speed) (s.gears - 1) in

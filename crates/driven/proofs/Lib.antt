@@ -1,3 +1,4 @@
+pub mod Gears
 pub mod Seconds
 pub mod Smoothing
 pub mod Corrected
