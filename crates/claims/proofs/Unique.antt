@@ -1,5 +1,5 @@
 -- Any two outcomes that a public contract allows coincide: the result, and the final contents of every buffer lent for output. One theorem for each
--- public function of the core. Assumes nothing.
+-- public function of the core, but for the passes over lanes, whose contracts do not name what a lane without a vehicle has. Assumes nothing.
 use mathlib.Core.Path.{◌≡◌, refl, sym, ap, ◌∙◌}
 use mathlib.Core.List.{List}
 use Prim.Native.Nat.{ℕ}
