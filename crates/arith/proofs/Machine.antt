@@ -29,7 +29,7 @@ fits_out {z} h = record { sfits = omega (zs, mag-parts z) }
 pub back : (z : ℤ) → mag z < 2 ^ 63 → to_z w64 (of_z w64 z) ≡ z
 back z h = to_z-of_z w64 z (record { sfits = h })
 
--- a call's result that is returned or stored:  handed c.f.result c.f.ok (search (needs, c.f.ensures))
+-- a call's result that is returned or stored:  handed c.f.result c.f.ok (search (rules, c.f.ensures))
 pub handed : (r : ℤ) {v : ℤ} → mag r < 2 ^ 63 → r ≡ v → to_z w64 (of_z w64 r) ≡ v
 handed r h e = back r h ∙ e
 

@@ -7,14 +7,7 @@ ghost use Rattle.arith.specs.Rounding.{div_down, div_up};
 ghost use Rattle.arith.specs.Stages.{smaller, larger, exactly, sum_of, difference_of, scaled_by, hull_of, product_of, divided_by};
 ghost use Rattle.arith.specs.Fitting.{SumFits, DifferenceFits, ScaledFits, ProductFits};
 
-// A number that is not negative, as a signed one.
-pub fn whole(n: u32) -> i64
-    ensures { result ≡ pos n }
-{
-    n as i64
-}
-
-// n / d rounded down.
+// n / d rounded down. That a divisor is positive stays a clause, here and below: each caller has it of one number at one call.
 #[tactic(auto, unfolding(crate::specs::Rounding::div_down))]
 pub fn div_down(n: i64, d: i64) -> i64
     requires positive { pos 0 <ℤ d }
@@ -32,16 +25,17 @@ pub fn div_up(n: i64, d: i64) -> i64
     if 0 < n { (n - 1) / d + 1 } else { n / d }
 }
 
-pub fn smaller(m: i64, n: i64) -> i64
+// The library's `min` and `max` in the words of the definition, in which the ends below are proved.
+fn smaller(m: i64, n: i64) -> i64
     ensures { result ≡ smaller m n }
 {
-    if m <= n { m } else { n }
+    m.min(n)
 }
 
-pub fn larger(m: i64, n: i64) -> i64
+fn larger(m: i64, n: i64) -> i64
     ensures { result ≡ larger m n }
 {
-    if m <= n { n } else { m }
+    m.max(n)
 }
 
 // The lower and the upper end of a number.

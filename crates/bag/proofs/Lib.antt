@@ -1,1 +1,2 @@
+pub mod Gas
 pub mod Sound

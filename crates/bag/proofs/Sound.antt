@@ -5,18 +5,20 @@ use mathlib.Core.List.{List, [], ◌∷◌, ◌++◌}
 use Prim.Native.Nat.{ℕ, ◌*◌}
 use lib.Dec.{eqb}
 use borrow.Author.Tests.{leb-true, eqb-true, eq-eqb}
-use Rattle.refusal.specs.declared.Judged.TheVariants.{Accepted}
+use Rattle.std.specs.Prelude.{Ok}
+use Rattle.refusal.specs.declared.Gas.{Gas}
+use Rattle.refusal.specs.declared.Gas.TheVariants.{HC, CO, NOx, CO2, NMHC}
 use Rattle.refusal.specs.Judging.{Check}
 use Rattle.refusal.specs.Ranges.{within}
 use Rattle.refusal.proofs.Judging.{AllHold, judged-holds}
 use Rattle.refusal.proofs.Ranges.{both, range, rangeℤ}
-use Rattle.reading.specs.Gas.{Gas, HC, CO, NOx, CO2, NMHC, along}
-use Rattle.reading.proofs.Gas.{by-gas}
+use Rattle.bag.specs.Gas.{along}
 use Rattle.bag.specs.declared.Part.{Part}
 use Rattle.bag.specs.declared.BagSheet.{BagSheet}
 use Rattle.bag.specs.Sheet.{density_at, limit_at, parts_of, class_holds, limit_check, efficiency_checks, test_checks, density_check, value_checks}
 use Rattle.bag.specs.Sheet.{of_third, sheet_checks, judge_sheet}
 use Rattle.bag.specs.Sound.{Ranged, Tested, Sound}
+use Rattle.bag.proofs.Gas.{by-gas}
 
 -- where one list after another holds, both do
 pub apart : (cs ds : List Check) → AllHold (cs ++ ds) → AllHold cs × AllHold ds
@@ -82,7 +84,7 @@ tested s e h =
 pub third-holds : (class : ℕ) (cs : List Check) → AllHold (of_third class cs) → class ≡ 3 → AllHold cs
 third-holds class cs h e = rw (eq-eqb class 3 e) at h
 
-pub accepted-sound : (s : BagSheet) → judge_sheet s ≡ Accepted → Sound s
+pub accepted-sound : (s : BagSheet) → judge_sheet s ≡ Ok tt → Sound s
 unfolding sheet_checks
 accepted-sound s e =
     let values-3 = of_third s.class (value_checks 3 s.third) in

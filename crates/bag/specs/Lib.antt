@@ -1,3 +1,4 @@
+pub mod Gas
 pub mod Fields
 pub mod Sheet
 pub mod Sound

@@ -1,11 +1,11 @@
 -- 01, Bag sheet and figures and Refusal numbers: the checks of refusals 10 and 11 in their order. Within 11 the test's fields come first, as
 -- part 0. The third part is read for class 3 alone.
 use Rattle.std.specs.Prelude.{Bool, ◌&&◌, cond, List, [], ◌∷◌, ◌++◌, ℕ, ◌*◌, leb, eqb}
-use Rattle.refusal.specs.declared.Judged.{Judged}
+use Rattle.refusal.specs.declared.Gas.{Gas}
+use Rattle.refusal.specs.Judging.{Judged, Check, judged_by}
 use Rattle.refusal.specs.declared.Refusal.TheVariants.{Parts, Value}
-use Rattle.refusal.specs.Judging.{Check, judged_by}
 use Rattle.refusal.specs.Ranges.{within, withinℤ}
-use Rattle.reading.specs.Gas.{Gas, among, along}
+use Rattle.bag.specs.Gas.{among, along}
 use Rattle.bag.specs.declared.Triple.{Triple}
 use Rattle.bag.specs.declared.Fuel.{Fuel}
 use Rattle.bag.specs.declared.Densities.{Densities}

@@ -1,6 +1,6 @@
 -- What an accepted bag sheet tells of its numbers, for the stages that stand on it (01, Bag sheet and figures, the table).
 use Rattle.std.specs.Prelude.{◌≡◌, ◌*◌, ◌≤◌, ◌≤ℤ◌}
-use Rattle.reading.specs.Gas.{Gas}
+use Rattle.refusal.specs.declared.Gas.{Gas}
 use Rattle.bag.specs.declared.Part.{Part}
 use Rattle.bag.specs.declared.Triple.{Triple}
 use Rattle.bag.specs.declared.Fuel.{Fuel}

@@ -1,5 +1,4 @@
-// The bag sheet of a Type I test (01, Bag sheet and figures), judged: refusals 10 and 11. Each function below takes what the checks after
-// its own say, so that the checks stand last to first.
+// The bag sheet of a Type I test (01, Bag sheet and figures), judged: refusals 10 and 11.
 #![tactic(auto)]
 
 ghost use Rattle.std.specs.Prelude.{◌≡◌, leb};
@@ -10,7 +9,7 @@ ghost use Rattle.bag.specs.Fields.{is_within, coldest, hottest, density_range, m
 ghost use Rattle.bag.specs.Sheet.{parts_of, class_holds, test_checks, pumped, value_checks, of_third, judge_sheet};
 
 use reading::Bag;
-use refusal::{Judged, Refusal};
+use refusal::Refusal;
 
 // Field 9: milligrams per cubic metre.
 #[repr(C)]
@@ -107,51 +106,39 @@ fn class_holds(class: u32, parts: u32) -> bool
 }
 
 // A number of a field.
-fn value(part: u32, field: u32, least: u32, most: u32, n: u32, rest: Judged) -> Judged
-    ensures { result ≡ checked (within least most n) (Value part field) rest }
+fn value(part: u32, field: u32, least: u32, most: u32, n: u32) -> Result<(), Refusal>
+    ensures { result ≡ checked (within least most n) (Value part field) (Ok tt) }
 {
-    refusal::check(
-        (least <= n) & (n <= most),
-        Refusal::Value { part, field },
-        rest,
-    )
+    refusal::check((least <= n) & (n <= most), Refusal::Value { part, field })
 }
 
 // A density of field 9.
-fn density(part: u32, n: u32, rest: Judged) -> Judged
-    ensures { result ≡ checked (is_within density_range n) (Value part 9) rest }
+fn density(part: u32, n: u32) -> Result<(), Refusal>
+    ensures { result ≡ checked (is_within density_range n) (Value part 9) (Ok tt) }
 {
-    value(part, 9, 1, 2100000, n, rest)
+    value(part, 9, 1, 2100000, n)
 }
 
 // A limit of field 12.
-fn limit(n: u64, rest: Judged) -> Judged
-    ensures { result ≡ checked (leb n most_limit) (Value 0 12) rest }
+fn limit(n: u64) -> Result<(), Refusal>
+    ensures { result ≡ checked (leb n most_limit) (Value 0 12) (Ok tt) }
 {
-    refusal::check(
-        n <= 1000000000000,
-        Refusal::Value { part: 0, field: 12 },
-        rest,
-    )
+    refusal::check(n <= 1000000000000, Refusal::Value { part: 0, field: 12 })
 }
 
 // Field 5, which may be below zero.
-fn temperature(part: u32, n: i32, rest: Judged) -> Judged
-    ensures { result ≡ checked (withinℤ coldest hottest n) (Value part 5) rest }
+fn temperature(part: u32, n: i32) -> Result<(), Refusal>
+    ensures { result ≡ checked (withinℤ coldest hottest n) (Value part 5) (Ok tt) }
 {
-    refusal::check(
-        (-400 <= n) & (n <= 1500),
-        Refusal::Value { part, field: 5 },
-        rest,
-    )
+    refusal::check((-400 <= n) & (n <= 1500), Refusal::Value { part, field: 5 })
 }
 
 // Fields 1 and 2 together. Two numbers of 32 bits have a product of 64.
-fn pumped(part: u32, pump: u32, revolutions: u32, rest: Judged) -> Judged
-    ensures { result ≡ checked (pumped pump revolutions) (Value part 2) rest }
+fn pumped(part: u32, pump: u32, revolutions: u32) -> Result<(), Refusal>
+    ensures { result ≡ checked (pumped pump revolutions) (Value part 2) (Ok tt) }
 {
     let ml = (pump as u64) * (revolutions as u64);
-    refusal::check(ml <= 1000000000, Refusal::Value { part, field: 2 }, rest)
+    refusal::check(ml <= 1000000000, Refusal::Value { part, field: 2 })
 }
 
 // Fields 10 to 13, as part 0.
@@ -161,77 +148,66 @@ fn test_values(
     fuel: Fuel,
     limits: Limits,
     efficiencies: Efficiencies,
-    rest: Judged,
-) -> Judged
-    ensures { result ≡ checked_all (test_checks triple fuel limits efficiencies) rest }
+) -> Result<(), Refusal>
+    ensures { result ≡ checked_all (test_checks triple fuel limits efficiencies) (Ok tt) }
 {
-    let ethane = value(0, 13, 0, 1000, efficiencies.ethane, rest);
-    let methane = value(0, 13, 0, 1000, efficiencies.methane, ethane);
-    let nmhc_limit = limit(limits.nmhc, methane);
-    let co2_limit = limit(limits.co2, nmhc_limit);
-    let nox_limit = limit(limits.nox, co2_limit);
-    let co_limit = limit(limits.co, nox_limit);
-    let hc_limit = limit(limits.hc, co_limit);
-    let density = value(0, 11, 600, 1000, fuel.density, hc_limit);
-    let co2 = value(0, 11, 0, 1000, fuel.co2, density);
-    let co = value(0, 11, 0, 1000, fuel.co, co2);
-    let hc = value(0, 11, 0, 1000, fuel.hc, co);
-    let k = value(0, 11, 1, 1500, fuel.k, hc);
-    let wh = value(0, 10, 0, 20, triple.wh, k);
-    let wc = value(0, 10, 0, 20, triple.wc, wh);
-    value(0, 10, 100, 200, triple.d, wc)
+    value(0, 10, 100, 200, triple.d)?;
+    value(0, 10, 0, 20, triple.wc)?;
+    value(0, 10, 0, 20, triple.wh)?;
+    value(0, 11, 1, 1500, fuel.k)?;
+    value(0, 11, 0, 1000, fuel.hc)?;
+    value(0, 11, 0, 1000, fuel.co)?;
+    value(0, 11, 0, 1000, fuel.co2)?;
+    value(0, 11, 600, 1000, fuel.density)?;
+    limit(limits.hc)?;
+    limit(limits.co)?;
+    limit(limits.nox)?;
+    limit(limits.co2)?;
+    limit(limits.nmhc)?;
+    value(0, 13, 0, 1000, efficiencies.methane)?;
+    value(0, 13, 0, 1000, efficiencies.ethane)
 }
 
 // Fields 1 to 9 of a part.
 #[tactic(auto, unfolding(crate::specs::Sheet::value_checks))]
-fn part_values(part: u32, p: Part, rest: Judged) -> Judged
-    ensures { result ≡ checked_all (value_checks part p) rest }
+fn part_values(part: u32, p: Part) -> Result<(), Refusal>
+    ensures { result ≡ checked_all (value_checks part p) (Ok tt) }
 {
-    let nmhc = density(part, p.density.nmhc, rest);
-    let co2 = density(part, p.density.co2, nmhc);
-    let nox = density(part, p.density.nox, co2);
-    let co = density(part, p.density.co, nox);
-    let hc = density(part, p.density.hc, co);
-    let distance = value(part, 8, 100, 100000, p.distance, hc);
-    let saturation = value(part, 7, 0, 12000, p.saturation, distance);
-    let humidity = value(part, 6, 0, 1000, p.humidity, saturation);
-    let warmth = temperature(part, p.temperature, humidity);
-    let depression = value(part, 4, 0, 20000, p.depression, warmth);
-    let barometer = value(part, 3, 80000, 110000, p.barometer, depression);
-    let volume = pumped(part, p.pump, p.revolutions, barometer);
-    let revolutions = value(part, 2, 1, 100000, p.revolutions, volume);
-    value(part, 1, 100, 20000, p.pump, revolutions)
+    value(part, 1, 100, 20000, p.pump)?;
+    value(part, 2, 1, 100000, p.revolutions)?;
+    pumped(part, p.pump, p.revolutions)?;
+    value(part, 3, 80000, 110000, p.barometer)?;
+    value(part, 4, 0, 20000, p.depression)?;
+    temperature(part, p.temperature)?;
+    value(part, 6, 0, 1000, p.humidity)?;
+    value(part, 7, 0, 12000, p.saturation)?;
+    value(part, 8, 100, 100000, p.distance)?;
+    density(part, p.density.hc)?;
+    density(part, p.density.co)?;
+    density(part, p.density.nox)?;
+    density(part, p.density.co2)?;
+    density(part, p.density.nmhc)
 }
 
 // Parts past the class's number are not read.
-fn third_values(class: u32, third: Part, rest: Judged) -> Judged
-    ensures { result ≡ checked_all (of_third class (value_checks 3 third)) rest }
+fn third_values(class: u32, third: Part) -> Result<(), Refusal>
+    ensures { result ≡ checked_all (of_third class (value_checks 3 third)) (Ok tt) }
 {
     if class == 3 {
-        part_values(3, third, rest)
+        part_values(3, third)
     } else {
-        rest
+        Ok(())
     }
 }
 
 // The first refusal of a sheet, of 10 and 11.
-#[tactic(auto, unfolding(crate::specs::Sheet::sheet_checks))]
-pub fn judge(sheet: BagSheet) -> Judged
+#[tactic(auto, using(refusal::proofs::Judging::one_after_another), unfolding(crate::specs::Sheet::sheet_checks))]
+pub fn judge(sheet: BagSheet) -> Result<(), Refusal>
     ensures { result ≡ judge_sheet sheet }
 {
-    let values_3 = third_values(sheet.class, sheet.third, Judged::Accepted);
-    let values_2 = part_values(2, sheet.second, values_3);
-    let values_1 = part_values(1, sheet.first, values_2);
-    let values_0 = test_values(
-        sheet.triple,
-        sheet.fuel,
-        sheet.limits,
-        sheet.efficiencies,
-        values_1,
-    );
-    refusal::check(
-        class_holds(sheet.class, sheet.parts),
-        Refusal::Parts,
-        values_0,
-    )
+    refusal::check(class_holds(sheet.class, sheet.parts), Refusal::Parts)?;
+    test_values(sheet.triple, sheet.fuel, sheet.limits, sheet.efficiencies)?;
+    part_values(1, sheet.first)?;
+    part_values(2, sheet.second)?;
+    third_values(sheet.class, sheet.third)
 }

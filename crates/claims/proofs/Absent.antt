@@ -13,11 +13,13 @@ use Rattle.arith.specs.Fitting.{Sized}
 use Rattle.arith.proofs.Parts.{zs}
 use Rattle.arith.proofs.Rounding.{same_ends}
 use Rattle.arith.proofs.Size.{abs-parts, wider-size, exactly-size, sum-size, difference-size, scaled-size, product-size, divided-size}
-use Rattle.reading.specs.Gas.{Gas, NMHC, is_nox, is_nmhc}
-use Rattle.reading.proofs.Gas.{by-gas}
+use Rattle.refusal.specs.declared.Gas.{Gas}
+use Rattle.refusal.specs.declared.Gas.TheVariants.{NMHC}
+use Rattle.bag.specs.Gas.{is_nox, is_nmhc}
 use Rattle.bag.specs.declared.Part.{Part}
 use Rattle.bag.specs.declared.BagSheet.{BagSheet}
 use Rattle.bag.specs.Sheet.{density_at}
+use Rattle.bag.proofs.Gas.{by-gas}
 use Rattle.bag.proofs.Sound.{accepted-sound}
 use Rattle.stage.specs.Combination.{combination_of}
 use Rattle.stage.specs.Part.{concentration_of, gas_volume_of, mass_of, rate_of}
@@ -34,7 +36,7 @@ use Rattle.part.specs.Ranges.{PartRanges}
 use Rattle.late.specs.Ranges.{PartsRanges}
 use Rattle.late.proofs.Late.{parts-ranges}
 use Rattle.emission.specs.declared.TestResult.{TestResult}
-use Rattle.emission.specs.declared.Answer.TheVariants.{Result}
+use Rattle.std.specs.Prelude.{Ok}
 use Rattle.emission.specs.Test.{no_part, third_part, parts_in, weighted_gases, nmhc_verdict, verdicts_of, result_of, test_answer}
 use Rattle.emission.proofs.Each.{verdict-at}
 use Rattle.claims.specs.Exact.{has}
@@ -155,11 +157,11 @@ module _ (s : BagSheet) (gas : Gas) (absent : has s gas ≡ false) where
         }
 
 -- the result itself tells whether it has the fifth
-pub told : (s : BagSheet) (r : TestResult) → test_answer s ≡ Result r → r.has_nmhc ≡ has s NMHC
+pub told : (s : BagSheet) (r : TestResult) → test_answer s ≡ Ok r → r.has_nmhc ≡ has s NMHC
 unfolding result_of
 told s r e = let a = accepted-result e in rw a.result
 
-pub absent : (s : BagSheet) (r : TestResult) → test_answer s ≡ Result r → (gas : Gas) → has s gas ≡ false → Absent r gas
+pub absent : (s : BagSheet) (r : TestResult) → test_answer s ≡ Ok r → (gas : Gas) → has s gas ≡ false → Absent r gas
 absent s r e gas h =
     let a = accepted-result e in
     let sound = accepted-sound s a.sheet in

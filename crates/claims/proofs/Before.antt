@@ -18,12 +18,13 @@ use Rattle.arith.proofs.Ring.{mul-add, mul_assoc, mul-one, mul-cancel-<}
 use Rattle.arith.proofs.Rounding.{down_le, down-max, down-whole, up-ge, up-whole, same_ends}
 use Rattle.reading.specs.declared.Message.{Message}
 use Rattle.reading.specs.declared.Message.TheVariants.{Ppm, Percent, OverRange, NotFitted}
-use Rattle.reading.specs.declared.Worth.TheVariants.{Units, Unusable}
+use Rattle.std.specs.Prelude.{None, Ok, Some}
 use Rattle.reading.specs.Units.{Exact, value, none, exact_value, times, exact_units, outward, most_units, up_to_limit, rounded, units_of}
-use Rattle.reading.specs.Gas.{Gas, HC, CO, NOx, CO2, NMHC, gas_number, is_nmhc, message_at}
+use Rattle.refusal.specs.declared.Gas.{Gas}
+use Rattle.refusal.specs.declared.Gas.TheVariants.{HC, CO, NOx, CO2, NMHC}
+use Rattle.bag.specs.Gas.{is_nmhc, message_at}
 use Rattle.bag.specs.declared.Part.{Part}
 use Rattle.bag.specs.declared.BagSheet.{BagSheet}
-use Rattle.sides.specs.declared.PartRead.TheVariants as part_read
 use Rattle.sides.specs.Gases.{nothing}
 use Rattle.sides.specs.ReadIn.{read_gas, worth_of, gas_of, read_part, read_third, read_in}
 use Rattle.emission.specs.Test.{test_answer}
@@ -99,7 +100,7 @@ unfolding exactly outward
 whole-rounded q u p e =
     let n = q.num in
     let d = q.den in
-    ap (λ (x : Ends). cond (lt_z n (pos 0)) Unusable (up_to_limit x))
+    ap (λ (x : Ends). cond (lt_z n (pos 0)) None (up_to_limit x))
     (same_ends (down-whole n d u p e ∙ sym (whole-nearest n d p u e)) (up-whole n d u p e ∙ sym (whole-nearest n d p u e)))
 
 pub whole-as-before : (message : Message) → WholeUnits message → units_of message ≡ units_before message
@@ -107,16 +108,16 @@ unfolding units_of units_before
 whole-as-before message w = rw w.is (whole-rounded w.exact w.units (den-positive message w.is) w.whole)
 
 -- what a usable reading is
-usable-is : (b : Bool) (a : Ends) {e : Ends} → cond b Unusable (up_to_limit a) ≡ Units e → a ≡ e
+usable-is : (b : Bool) (a : Ends) {e : Ends} → cond b None (up_to_limit a) ≡ Some e → a ≡ e
 usable-is true a h = absurd (false≢true (cc))
 usable-is false a {e} h = go (le_z a.upper (pos most_units)) h
   where
-    go : (t : Bool) → cond t (Units a) Unusable ≡ Units e → a ≡ e
+    go : (t : Bool) → cond t (Some a) None ≡ Some e → a ≡ e
     go true h = cc
     go false h = absurd (false≢true (cc))
 
 held : (x : Exact) {e f : Ends} → ((q : Fraction) → x ≡ value q → pos 0 <ℤ q.den) →
-    rounded x ≡ Units e → rounded_before x ≡ Units f → HoldsEnds e f
+    rounded x ≡ Some e → rounded_before x ≡ Some f → HoldsEnds e f
 unfolding exactly outward
 held none p h i = absurd (false≢true (cc))
 held (value q) p h i =
@@ -125,7 +126,7 @@ held (value q) p h i =
     rw (← new, ← old)
     (record { lower = nearest-above q.num q.den (p q refl); upper = nearest-below q.num q.den (p q refl) })
 
-pub before-held : (message : Message) {e f : Ends} → units_of message ≡ Units e → units_before message ≡ Units f → HoldsEnds e f
+pub before-held : (message : Message) {e f : Ends} → units_of message ≡ Some e → units_before message ≡ Some f → HoldsEnds e f
 unfolding units_of units_before
 before-held message h i = held (exact_units message) (λ q e. den-positive message e) h i
 
@@ -138,7 +139,7 @@ worth-as-before gas message w = go (is_nmhc gas) refl w
     go false e w = rw e (whole-as-before message (w refl))
 
 gas-as-before : (part : ℕ) (p : Part) → WholePart p → (gas : Gas) → gas_of part p gas ≡ gas_before part p gas
-gas-as-before part p w gas = λ i. read_gas part (gas_number gas) (worth-as-before gas (message_at gas p.bag) (w.bag gas) i) (worth-as-before gas (message_at gas p.air) (w.air gas) i)
+gas-as-before part p w gas = λ i. read_gas part gas (worth-as-before gas (message_at gas p.bag) (w.bag gas) i) (worth-as-before gas (message_at gas p.air) (w.air gas) i)
 
 part-as-before : (part : ℕ) (p : Part) → WholePart p → read_part part p ≡ part_before part p
 unfolding read_part part_before
@@ -149,8 +150,8 @@ unfolding read_third third_before
 third-as-before class third w = go (eqb class 3) (eqb-true class 3)
   where
     go : (b : Bool) → (b ≡ true → class ≡ 3) →
-        cond b (read_part 3 third) (part_read.Units (record { bag = nothing; air = nothing }))
-        ≡ cond b (part_before 3 third) (part_read.Units (record { bag = nothing; air = nothing }))
+        cond b (read_part 3 third) (Ok (record { bag = nothing; air = nothing }))
+        ≡ cond b (part_before 3 third) (Ok (record { bag = nothing; air = nothing }))
     go true f = part-as-before 3 third (w (f refl))
     go false f = refl
 

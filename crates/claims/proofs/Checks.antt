@@ -7,9 +7,10 @@ use lib.ListN.{length}
 use lib.Dec.{eqb, leb}
 use Rattle.refusal.specs.declared.Refusal.{Refusal}
 use Rattle.refusal.specs.declared.Refusal.TheVariants.{Header, Count, Length, Second, PowerToMass, Room, TooClose, PairCounts, Marked}
-use Rattle.refusal.specs.declared.Judged.{Judged}
-use Rattle.refusal.specs.declared.Judged.TheVariants.{Accepted, Refused}
-use Rattle.refusal.specs.Judging.{checked, Check, checked_all, judged_by, and_then}
+use Rattle.std.specs.Prelude.{Ok, Err, Result}
+use Rattle.refusal.specs.Judging.{Judged, checked, Check, checked_all, judged_by, and_then}
+use Rattle.emission.specs.declared.TestResult.{TestResult}
+use Rattle.sides.specs.declared.TestSides.{TestSides}
 use Rattle.refusal.specs.Ranges.{within}
 use Rattle.refusal.proofs.Judging.{checked_all-append, checked_all-then}
 use Rattle.walk.specs.Walk.{scan}
@@ -28,17 +29,10 @@ use Rattle.bag.specs.Sheet.{sheet_checks, of_third, judge_sheet}
 use Rattle.bag.specs.declared.Part.{Part}
 use Rattle.cutter.specs.NonMethane.{cutter_of}
 use Rattle.sides.specs.declared.Sides.{Sides}
-use Rattle.sides.specs.declared.PartRead.{PartRead}
-use Rattle.sides.specs.declared.PartRead.TheVariants as part_read
-use Rattle.sides.specs.declared.Read.{Read}
-use Rattle.sides.specs.declared.Read.TheVariants as read
 use Rattle.sides.specs.Gases.{nothing}
 use Rattle.sides.specs.ReadIn.{read_part, judged_part, reading_checks, read_third, on_part, read_in, message_checks}
 use Rattle.sides.proofs.Readings.{part-judged}
 use Rattle.late.specs.Late.{late_checks, judge_late}
-use Rattle.emission.specs.declared.Answer.{Answer}
-use Rattle.emission.specs.declared.Answer.TheVariants.{Result}
-use Rattle.emission.specs.declared.Answer.TheVariants as answer
 use Rattle.emission.specs.Test.{on_read, hand_up, read_answer, test_answer}
 
 -- ---- stages and searches as lists of checks
@@ -51,15 +45,15 @@ each holds refusal k zero = []
 each holds refusal k (suc n) = check (holds k) (refusal k) ∷ each holds refusal (k + 1) n
 
 pub then-list : (cs ds : List Check) → and_then (judged_by cs) (judged_by ds) ≡ judged_by (cs ++ ds)
-then-list cs ds = sym (checked_all-append cs ds Accepted ∙ checked_all-then cs (judged_by ds))
+then-list cs ds = sym (checked_all-append cs ds (Ok tt) ∙ checked_all-then cs (judged_by ds))
 
 scan-each : (good : ℕ → Bool) (refusal : ℕ → Refusal) (k n : ℕ)
-    → scan good (λ i. Refused (refusal i)) (λ i. Accepted) k n ≡ judged_by (each good refusal k n)
+    → scan good (λ i. Err (refusal i)) (λ i. Ok tt) k n ≡ judged_by (each good refusal k n)
 scan-each good refusal k zero = refl
 scan-each good refusal k (suc n) =
-    ap (λ (j : Judged). cond (good k) j (Refused (refusal k))) (scan-each good refusal (k + 1) n) ∙ by (good k) (refusal k) _
+    ap (λ (j : Judged). cond (good k) j (Err (refusal k))) (scan-each good refusal (k + 1) n) ∙ by (good k) (refusal k) _
   where
-    by : (b : Bool) (r : Refusal) (rest : Judged) → cond b rest (Refused r) ≡ checked b r rest
+    by : (b : Bool) (r : Refusal) (rest : Judged) → cond b rest (Err r) ≡ checked b r rest
     by true r rest = refl
     by false r rest = refl
 
@@ -75,10 +69,10 @@ abbrev pub file_checks : Bool → (ℕ → Bool) → List ℕ → List Check
 file_checks known good file = heads known file ++ each good (λ k. Second (k + 1)) 0 (count_of file)
 
 pub file-judged : (known : Bool) (good : ℕ → Bool) (file : List ℕ)
-    → judge_file known file (scan good (λ k. Refused (Second (k + 1))) (λ k. Accepted) 0 (count_of file)) ≡ judged_by (file_checks known good file)
+    → judge_file known file (scan good (λ k. Err (Second (k + 1))) (λ k. Ok tt) 0 (count_of file)) ≡ judged_by (file_checks known good file)
 file-judged known good file =
     ap (checked_all (heads known file)) (scan-each good (λ k. Second (k + 1)) 0 (count_of file))
-    ∙ sym (checked_all-append (heads known file) (each good (λ k. Second (k + 1)) 0 (count_of file)) Accepted)
+    ∙ sym (checked_all-append (heads known file) (each good (λ k. Second (k + 1)) 0 (count_of file)) (Ok tt))
 
 -- ---- a trace, and a pair
 abbrev pub trace_checks : List ℕ → List Check
@@ -126,7 +120,7 @@ vehicle-judged v = go (within 3 8 v.gears) refl
     -- place 5 fails, or one before it, whatever follows
     go false e =
         let ended : (x y : Judged) → checked_all (engine_checks v) x ≡ checked_all (engine_checks v) y = λ x y. rw e in
-        sym (checked_all-then (engine_checks v) _) ∙ ended _ _ ∙ sym (checked_all-append (engine_checks v) (rule_checks v ++ (check (mild v) PowerToMass ∷ [])) Accepted)
+        sym (checked_all-then (engine_checks v) _) ∙ ended _ _ ∙ sym (checked_all-append (engine_checks v) (rule_checks v ++ (check (mild v) PowerToMass ∷ [])) (Ok tt))
 
 -- ---- the gear sheet: 1 to 7, 20, 8 and 9
 abbrev unmarked : VehicleSheet → List ℕ → ℕ → Bool
@@ -135,9 +129,9 @@ unmarked v trace k = not (eqb v.rules 2 && marked_at trace k)
 marks-judged : (v : VehicleSheet) (trace : List ℕ) (n : ℕ) → gears.marks_by v trace n ≡ judged_by (each (unmarked v trace) (λ k. Marked (k + 1)) 0 n)
 marks-judged v trace n = go (eqb v.rules 2) ∙ scan-each (unmarked v trace) (λ k. Marked (k + 1)) 0 n
   where
-    go : (b : Bool) → cond b (judge_marks trace 0 n) Accepted ≡ scan (λ k. not (b && marked_at trace k)) (λ k. Refused (Marked (k + 1))) (λ k. Accepted) 0 n
+    go : (b : Bool) → cond b (judge_marks trace 0 n) (Ok tt) ≡ scan (λ k. not (b && marked_at trace k)) (λ k. Err (Marked (k + 1))) (λ k. Ok tt) 0 n
     go true = refl
-    go false = sym (scan_good (λ k. Refused (Marked (k + 1))) (λ k. Accepted) (λ k. true) 0 n (λ j l. refl))
+    go false = sym (scan_good (λ k. Err (Marked (k + 1))) (λ k. Ok tt) (λ k. true) 0 n (λ j l. refl))
 
 abbrev pub gear_checks : List ℕ → VehicleSheet → ℕ → ℕ → List Check
 gear_checks trace v room start =
@@ -160,31 +154,31 @@ gear-judged trace v room start =
     ∙ flat (trace_checks trace) (vehicle_checks v) (each (unmarked v trace) (λ k. Marked (k + 1)) 0 (count_of trace)) space _
 
 -- ---- the emission sheet, 10 to 14 and 19
-abbrev judged_read : Read → Judged
-judged_read (read.Units readings) = Accepted
-judged_read (read.Refused refusal) = Refused refusal
+abbrev judged_read : Result TestSides Refusal → Judged
+judged_read (Ok readings) = Ok tt
+judged_read (Err refusal) = Err refusal
 
-abbrev pub judged_answer : Answer → Judged
-judged_answer (Result result) = Accepted
-judged_answer (answer.Refused refusal) = Refused refusal
+abbrev pub judged_answer : Result TestResult Refusal → Judged
+judged_answer (Ok result) = Ok tt
+judged_answer (Err refusal) = Err refusal
 
-on-part : (p : PartRead) (next : Sides → Read) (rest : Judged) → ((sides : Sides) → judged_read (next sides) ≡ rest)
+on-part : (p : (Result Sides Refusal)) (next : Sides → (Result TestSides Refusal)) (rest : Judged) → ((sides : Sides) → judged_read (next sides) ≡ rest)
     → judged_read (on_part p next) ≡ and_then (judged_part p) rest
-on-part (part_read.Units sides) next rest h = h sides
-on-part (part_read.Refused refusal) next rest h = refl
+on-part (Ok sides) next rest h = h sides
+on-part (Err refusal) next rest h = refl
 
 third-judged : (class : ℕ) (third : Part) → judged_part (read_third class third) ≡ judged_by (of_third class (reading_checks 3 third))
 unfolding read_third
 third-judged class third = go (eqb class 3)
   where
-    go : (b : Bool) → judged_part (cond b (read_part 3 third) (part_read.Units (record { bag = nothing; air = nothing })))
+    go : (b : Bool) → judged_part (cond b (read_part 3 third) (Ok (record { bag = nothing; air = nothing })))
         ≡ judged_by (cond b (reading_checks 3 third) [])
     go true = part-judged 3 third
     go false = refl
 
-then-nothing : (j : Judged) → and_then j Accepted ≡ j
-then-nothing Accepted = refl
-then-nothing (Refused refusal) = refl
+then-nothing : (j : Judged) → and_then j (Ok tt) ≡ j
+then-nothing (Ok _) = refl
+then-nothing (Err refusal) = refl
 
 read-judged : (s : BagSheet) → judged_read (read_in s) ≡ judged_by (message_checks s)
 unfolding read_in message_checks
@@ -193,19 +187,19 @@ read-judged s =
     (λ first. on-part (read_part 2 s.second) _ _ (λ second. on-part (read_third s.class s.third) _ _ (λ third. refl)))
     ∙ simp (then-nothing, part-judged, third-judged, then-list)
 
-hand-judged : (j : Judged) (next : Answer) → judged_answer (hand_up j next) ≡ and_then j (judged_answer next)
-hand-judged Accepted next = refl
-hand-judged (Refused refusal) next = refl
+hand-judged : (j : Judged) (next : Result TestResult Refusal) → judged_answer (hand_up j next) ≡ and_then j (judged_answer next)
+hand-judged (Ok _) next = refl
+hand-judged (Err refusal) next = refl
 
 -- 13, 14 and 19 are judged of what was read
-abbrev pub late_on : BagSheet → Read → List Check
-late_on s (read.Units readings) = late_checks s (cutter_of s) readings
-late_on s (read.Refused refusal) = []
+abbrev pub late_on : BagSheet → Result TestSides Refusal → List Check
+late_on s (Ok readings) = late_checks s (cutter_of s) readings
+late_on s (Err refusal) = []
 
-late-judged : (s : BagSheet) (x : Read) → judged_answer (on_read x (read_answer s)) ≡ and_then (judged_read x) (judged_by (late_on s x))
+late-judged : (s : BagSheet) (x : Result TestSides Refusal) → judged_answer (on_read x (read_answer s)) ≡ and_then (judged_read x) (judged_by (late_on s x))
 unfolding read_answer
-late-judged s (read.Units readings) = hand-judged (judge_late s (cutter_of s) readings) _ ∙ then-nothing (judge_late s (cutter_of s) readings)
-late-judged s (read.Refused refusal) = refl
+late-judged s (Ok readings) = hand-judged (judge_late s (cutter_of s) readings) _ ∙ then-nothing (judge_late s (cutter_of s) readings)
+late-judged s (Err refusal) = refl
 
 abbrev pub emission_checks : BagSheet → List Check
 emission_checks s = sheet_checks s ++ (message_checks s ++ late_on s (read_in s))

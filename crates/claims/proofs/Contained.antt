@@ -9,7 +9,9 @@ use borrow.Author.Tests.{leb-true, eqb-true, eq-eqb, ne_eqb}
 use lib.IntN.{pos}
 use Rattle.arith.specs.Fraction.{Fraction, Between, ◌*ᶠ◌}
 use Rattle.arith.proofs.Enclosure.{exactly-holds}
-use Rattle.reading.specs.Gas.{Gas, HC, CO, CO2, NMHC, is_nox, is_nmhc}
+use Rattle.refusal.specs.declared.Gas.{Gas}
+use Rattle.refusal.specs.declared.Gas.TheVariants.{HC, CO, CO2, NMHC}
+use Rattle.bag.specs.Gas.{is_nox, is_nmhc}
 use Rattle.bag.specs.declared.Part.{Part}
 use Rattle.bag.specs.declared.Triple.{Triple}
 use Rattle.bag.specs.declared.Efficiencies.{Efficiencies}
@@ -32,7 +34,7 @@ use Rattle.late.specs.Ranges.{PartsRanges}
 use Rattle.late.proofs.Late.{parts-ranges}
 use Rattle.emission.specs.declared.Parts.{Parts}
 use Rattle.emission.specs.declared.TestResult.{TestResult}
-use Rattle.emission.specs.declared.Answer.TheVariants.{Result}
+use Rattle.std.specs.Prelude.{Ok}
 use Rattle.emission.specs.Test.{no_part, third_part, parts_in, weighted_gases, result_of, test_answer}
 use Rattle.claims.specs.Exact.{PartPpm, TestPpm, TestMeasured, has, count, exact_g, exact_non_methane, exact_in, exact_concentration, exact_gas_volume, exact_dry_mass}
 use Rattle.claims.specs.Exact.{exact_kh, exact_mass, exact_rate, exact_third, percent_of, exact_weighted, exact_fuel}
@@ -169,7 +171,7 @@ module _ {s : BagSheet} {readings : TestSides} {x : TestPpm} (t : Tested s) (rea
   unfolding result_of
   result-in = record { first = first-in; second = second-in; third = third-in; no_third = no_third_lem; weighted = weighted-in; fuel = fuel-in }
 
-pub contained : (s : BagSheet) (x : TestPpm) (r : TestResult) → test_answer s ≡ Result r → TestMeasured s x → Contained s x r
+pub contained : (s : BagSheet) (x : TestPpm) (r : TestResult) → test_answer s ≡ Ok r → TestMeasured s x → Contained s x r
 contained s x r e m =
     let a = accepted-result e in
     let sound = accepted-sound s a.sheet in

@@ -6,9 +6,8 @@ use Prim.Native.Nat.{ℕ, ◌+◌, ◌*◌}
 use native.Mathlib.Omega.{arith}
 use lib.Dec.{leb}
 use Rattle.refusal.specs.declared.Refusal.TheVariants.{Room}
-use Rattle.refusal.specs.declared.Judged.{Judged}
-use Rattle.refusal.specs.declared.Judged.TheVariants as judged
-use Rattle.refusal.specs.Judging.{Check, judged_by, and_then}
+use Rattle.std.specs.Prelude.{Ok, Err}
+use Rattle.refusal.specs.Judging.{Judged, Check, judged_by, and_then}
 use Rattle.house.specs.House.{count_of, draft_headed}
 use Rattle.draft.specs.Draft.{good_for, judge_draft, fits, judge_mend, counted, mend_answer, judge_turn}
 use Rattle.outcome.specs.declared.Outcome.{Outcome}
@@ -46,8 +45,8 @@ module _ (turning : Bool) (draft : List ℕ) (room : Bool) where
 
 -- ---- mending, as a bench is given it
 given_out : (j : Judged) (draft : List ℕ) → (mend_out (counted j draft)).outcome ≡ outcome_of j
-given_out judged.Accepted draft = refl
-given_out (judged.Refused refusal) draft = refl
+given_out (Ok _) draft = refl
+given_out (Err refusal) draft = refl
 
 module _ (draft : List ℕ) (room changed_room open_room : ℕ) where
   pub mend-table : (mend_out (mend_answer draft room changed_room open_room)).outcome ≡ first_of (mend_table draft room changed_room open_room)

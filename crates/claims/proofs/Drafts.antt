@@ -4,7 +4,7 @@ use mathlib.Core.List.{List}
 use Prim.Native.Nat.{ℕ}
 use lib.ListN.{length}
 use Rattle.refusal.specs.declared.Refusal.TheVariants.{Header}
-use Rattle.refusal.specs.declared.Judged.TheVariants.{Accepted, Refused}
+use Rattle.std.specs.Prelude.{Ok, Err}
 use Rattle.house.specs.House.{version_of, readable}
 use Rattle.trace.specs.Judging.{judge_trace, judge_pair}
 use Rattle.trace.proofs.Sound.{unreadable}
@@ -14,18 +14,18 @@ use Rattle.prompt.specs.Prompt.{judge_begin}
 use Rattle.claims.specs.Drafts.{NeverDriven}
 
 module _ (draft : List ℕ) (is : version_of draft ≡ 3) where
-  refused : judge_trace draft ≡ Refused Header
+  refused : judge_trace draft ≡ Err Header
   refused = unreadable draft (ap readable is)
 
-  pair-normal : (reduced : List ℕ) → judge_pair draft reduced ≡ Refused Header
+  pair-normal : (reduced : List ℕ) → judge_pair draft reduced ≡ Err Header
   unfolding judge_pair
   pair-normal reduced = rw refused
 
-  pair-reduced : (normal : List ℕ) → judge_trace normal ≡ Accepted → judge_pair normal draft ≡ Refused Header
+  pair-reduced : (normal : List ℕ) → judge_trace normal ≡ Ok tt → judge_pair normal draft ≡ Err Header
   unfolding judge_pair
   pair-reduced normal e = rw (e, refused)
 
-  not-driven : (v : VehicleSheet) (room start : ℕ) → gear_answer draft v room start ≡ Refused Header
+  not-driven : (v : VehicleSheet) (room start : ℕ) → gear_answer draft v room start ≡ Err Header
   unfolding gear_answer judge_sheet
   not-driven v room start = rw refused
 
@@ -33,7 +33,7 @@ module _ (draft : List ℕ) (is : version_of draft ≡ 3) where
   unfolding gear_buffer
   buffer-kept v buffer start = rw (not-driven v (length buffer) start)
 
-  not-begun : (v : VehicleSheet) → judge_begin 3 v ≡ Refused Header
+  not-begun : (v : VehicleSheet) → judge_begin 3 v ≡ Err Header
   unfolding judge_begin
   not-begun v = refl
 

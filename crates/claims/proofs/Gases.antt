@@ -2,7 +2,8 @@
 use mathlib.Core.Path.{◌≡◌}
 use mathlib.Core.Bool.{cond}
 use Rattle.arith.specs.declared.Ends.{Ends}
-use Rattle.reading.specs.Gas.{Gas, is_nox, is_nmhc}
+use Rattle.refusal.specs.declared.Gas.{Gas}
+use Rattle.bag.specs.Gas.{is_nox, is_nmhc}
 use Rattle.bag.specs.declared.Part.{Part}
 use Rattle.bag.specs.declared.Triple.{Triple}
 use Rattle.bag.specs.Sheet.{density_at}

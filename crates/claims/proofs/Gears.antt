@@ -8,7 +8,7 @@ use native.Mathlib.Numerals.{add-one}
 use native.Mathlib.Omega.{arith}
 use lib.Dec.{ltb}
 use lib.ListN.{length}
-use Rattle.refusal.specs.declared.Judged.TheVariants.{Accepted}
+use Rattle.std.specs.Prelude.{Ok}
 use Rattle.house.specs.House.{count_of, flags_at, stop_at, no_first_at}
 use Rattle.vehicle.specs.declared.VehicleSheet.{VehicleSheet}
 use Rattle.row.specs.Row.{gear_at}
@@ -22,7 +22,7 @@ use Rattle.phase.proofs.Stops.{last-gear}
 use Rattle.row.proofs.Ranges.{least_by, least-range}
 use Rattle.claims.proofs.Finished.{row-fit}
 
-module _ (trace : List ℕ) (v : VehicleSheet) (buffer : List ℕ) (start : ℕ) (accepted : gear_answer trace v (length buffer) start ≡ Accepted) where
+module _ (trace : List ℕ) (v : VehicleSheet) (buffer : List ℕ) (start : ℕ) (accepted : gear_answer trace v (length buffer) start ≡ Ok tt) where
   -- all of it at once
   held : Fit trace (count_of trace) v.gears (finished_row trace v buffer start)
   held =

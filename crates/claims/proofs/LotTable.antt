@@ -10,12 +10,13 @@ use lib.ListN.{length}
 use lib.IntN.{ℤ, pos}
 use lib.Signed.{le_z, lt_z, clash_ℤ}
 use Rattle.arith.proofs.Machine.{lt-true, lt-false, le-true}
-use Rattle.reading.specs.Gas.{Gas, HC, CO, NOx, CO2, NMHC}
 use Rattle.sides.specs.Gases.{ends_at}
 use Rattle.record.specs.declared.Record.{Record}
 use Rattle.tally.specs.Entries.{most_end, least_end, beyond, faulty_ends}
 use Rattle.lot.specs.declared.LotSheet.{LotSheet}
-use Rattle.lot.specs.declared.LotAnswer.TheVariants.{Refused}
+use Rattle.std.specs.Prelude.{Err}
+use Rattle.refusal.specs.declared.Gas.{Gas}
+use Rattle.refusal.specs.declared.Gas.TheVariants.{HC, CO, NOx, CO2, NMHC}
 use Rattle.refusal.specs.declared.Refusal.TheVariants.{LotSize}
 use Rattle.lot.specs.Lot.{sheet_of, faulty, first_fault, on_fault, lot_answer}
 use Rattle.lot_crossing.specs.Lot.{sheet_out, refused_out, lot_out}
@@ -106,7 +107,7 @@ module _ (rs : List Record) where
   lot-first = go (leb (length rs) 256) (lines-first 0 rs (sheet_of rs))
     where
       go : (t : Bool) → (lot_out (on_fault (first_fault 0 rs) (sheet_of rs))).outcome ≡ first_of (record_lines 0 rs)
-          → (lot_out (cond t (on_fault (first_fault 0 rs) (sheet_of rs)) (Refused LotSize))).outcome ≡ cond t (first_of (record_lines 0 rs)) (outcome 18 0 0 0)
+          → (lot_out (cond t (on_fault (first_fault 0 rs) (sheet_of rs)) (Err LotSize))).outcome ≡ cond t (first_of (record_lines 0 rs)) (outcome 18 0 0 0)
       go true later = later
       go false later = refl
 

@@ -21,8 +21,8 @@ use Rattle.arith.proofs.Ring.{≤_trans, <-≤}
 use Rattle.arith.proofs.Machine.{le-true}
 use Rattle.arith.proofs.Size.{abs-parts, wider-size}
 use Rattle.arith.proofs.Enclosure.{ordered, exactly-holds, sum-holds, divided-holds, larger-ge}
-use Rattle.reading.specs.Gas.{Gas, is_nmhc}
-use Rattle.reading.proofs.Gas.{by-gas}
+use Rattle.bag.specs.Gas.{is_nmhc}
+use Rattle.bag.proofs.Gas.{by-gas}
 use Rattle.bag.proofs.Sound.{accepted-sound}
 use Rattle.sides.specs.Gases.{ends_at}
 use Rattle.part.specs.Ranges.{largest_mass_of}
@@ -35,7 +35,8 @@ use Rattle.tally.specs.Entries.{Entry, most_end, least_end, faulty_ends, sum_ove
 use Rattle.tally.proofs.Sound.{taken-ends}
 use Rattle.tally.proofs.Counts.{counts-add-up}
 use Rattle.lot.specs.declared.LotSheet.{LotSheet}
-use Rattle.lot.specs.declared.LotAnswer.TheVariants.{Sheet, Refused}
+use Rattle.std.specs.Prelude.{Ok, Err}
+use Rattle.refusal.specs.declared.Gas.{Gas}
 use Rattle.refusal.specs.declared.Refusal.TheVariants.{LotSize}
 use Rattle.lot.specs.Lot.{entry_at, entries_from, entries_of, sheet_at, sheet_of, faulty, first_fault, most_records, on_fault, lot_answer}
 use Rattle.lot.specs.Room.{Sound}
@@ -65,11 +66,11 @@ record AcceptedLot (rs : List Record) (s : LotSheet) : Type 0 where
   sounds : EachSound rs
   is : s ≡ sheet_of rs
 
-accepted-lot : (rs : List Record) {s : LotSheet} → lot_answer rs ≡ Sheet s → AcceptedLot rs s
+accepted-lot : (rs : List Record) {s : LotSheet} → lot_answer rs ≡ Ok s → AcceptedLot rs s
 unfolding lot_answer
 accepted-lot rs {s} e = go (leb (length rs) most_records) (first_fault 0 rs) (none_found 0 rs) e
   where
-    go : (t : Bool) (f : Option ℕ) → (f ≡ none → EachSound rs) → cond t (on_fault f (sheet_of rs)) (Refused LotSize) ≡ Sheet s → AcceptedLot rs s
+    go : (t : Bool) (f : Option ℕ) → (f ≡ none → EachSound rs) → cond t (on_fault f (sheet_of rs)) (Err LotSize) ≡ Ok s → AcceptedLot rs s
     go true none sounds e = record { sounds = sounds refl; is = cc }
     go true (some k) sounds e = absurd (false≢true (cc))
     go false f sounds e = absurd (false≢true (cc))
@@ -89,7 +90,7 @@ entries-length gas at (r ∷ rs) = go (has_gas gas r) (entries-length gas (suc a
     go true e = ap suc e
     go false e = e
 
-pub lot-counts : (rs : List Record) {s : LotSheet} → lot_answer rs ≡ Sheet s → (gas : Gas) → AddUp gas rs (sheet_at gas s)
+pub lot-counts : (rs : List Record) {s : LotSheet} → lot_answer rs ≡ Ok s → (gas : Gas) → AddUp gas rs (sheet_at gas s)
 unfolding gas_sheet
 lot-counts rs e gas = rw ((accepted-lot rs e).is, gas-in gas rs) (counts-add-up (entries_of gas rs) ∙ entries-length gas 0 rs)
 
@@ -188,7 +189,7 @@ empty (x ∷ xs) e = absurd (omega arith)
 no-entries : (e : Entry) (es : List Entry) → e ∷ es ≡ [] → ⊥
 no-entries e es h = let n : suc (length es) ≡ 0 = ap length h in absurd (omega (arith, n))
 
-pub lot-worst : (rs : List Record) {s : LotSheet} → lot_answer rs ≡ Sheet s → (gas : Gas) → WorstIn gas rs (sheet_at gas s).mean
+pub lot-worst : (rs : List Record) {s : LotSheet} → lot_answer rs ≡ Ok s → (gas : Gas) → WorstIn gas rs (sheet_at gas s).mean
 unfolding gas_sheet
 lot-worst rs e gas = let a = accepted-lot rs e in rw (a.is, gas-in gas rs) (go (entries_of gas rs) (entries-length gas 0 rs) (found gas 0 rs a.sounds))
   where
@@ -221,7 +222,7 @@ module _ (gas : Gas) where
   as_many [] (q ∷ qs) h = absurd h
   as_many (r ∷ rs) [] h = absurd h
 
-  pub lot-mean : (rs : List Record) (qs : List Fraction) → AllBetween gas (having gas rs) qs → {s : LotSheet} → lot_answer rs ≡ Sheet s
+  pub lot-mean : (rs : List Record) (qs : List Fraction) → AllBetween gas (having gas rs) qs → {s : LotSheet} → lot_answer rs ≡ Ok s
       → MeanHolds (sheet_at gas s).mean (exact_mean qs)
   unfolding gas_sheet
   lot-mean rs qs h e =
@@ -258,7 +259,7 @@ all-between gas (t ∷ ts) = rw (has-gas t gas) (go (has t.sheet gas) (weighted-
     go true here rest = (here refl, rest)
     go false here rest = rest
 
-pub tests-mean : (gas : Gas) (ts : List Test) {s : LotSheet} → lot_answer (records_of ts) ≡ Sheet s → MeanHolds (sheet_at gas s).mean (exact_mean (exacts_of gas ts))
+pub tests-mean : (gas : Gas) (ts : List Test) {s : LotSheet} → lot_answer (records_of ts) ≡ Ok s → MeanHolds (sheet_at gas s).mean (exact_mean (exacts_of gas ts))
 tests-mean gas ts e = lot-mean gas (records_of ts) (exacts_of gas ts) (all-between gas ts) e
 
 -- a weighted result is below 10^13: the fifth gas's is 7.52 x 10^12 at most
@@ -288,6 +289,6 @@ none-faulty at [] = refl
 none-faulty at (t ∷ ts) = rw (test-taken t) (none-faulty (suc at) ts)
 
 -- no lot of at most 256 accepted tests is refused
-pub tests-taken : (ts : List Test) → length (records_of ts) ≤ 256 → lot_answer (records_of ts) ≡ Sheet (sheet_of (records_of ts))
+pub tests-taken : (ts : List Test) → length (records_of ts) ≤ 256 → lot_answer (records_of ts) ≡ Ok (sheet_of (records_of ts))
 unfolding lot_answer
 tests-taken ts few = rw (le-leb (length (records_of ts)) most_records few, none-faulty 0 ts)

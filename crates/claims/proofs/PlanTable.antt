@@ -6,8 +6,7 @@ use Prim.Native.Nat.{ℕ, ◌*◌, ◌/◌, ◌%◌}
 use native.Mathlib.Omega.{arith}
 use lib.Dec.{eqb, leb}
 use Rattle.refusal.specs.declared.Refusal.TheVariants.{Room}
-use Rattle.refusal.specs.declared.Judged.{Judged}
-use Rattle.refusal.specs.Judging.{Check, judged_by, and_then}
+use Rattle.refusal.specs.Judging.{Judged, Check, judged_by, and_then}
 use Rattle.house.specs.House.{count_of}
 use Rattle.plan.specs.Plan.{judge_room, judge_plan}
 use Rattle.outcome.specs.Outcome.{outcome_of}

@@ -5,9 +5,8 @@ use Prim.Native.Nat.{ℕ, ◌+◌, ◌*◌, ◌<◌, ◌≤◌}
 use native.Mathlib.Omega.{arith}
 use lib.ListN.{length, get_or, drop, length-drop}
 use lib.Seq.{length-take-le}
-use Rattle.refusal.specs.declared.Judged.{Judged}
-use Rattle.refusal.specs.declared.Judged.TheVariants.{Accepted}
-use Rattle.refusal.specs.Judging.{if_accepted}
+use Rattle.std.specs.Prelude.{Ok}
+use Rattle.refusal.specs.Judging.{Judged, if_accepted}
 use Rattle.house.specs.House.{count_of}
 use Rattle.gear.specs.Sheet.{row_of, gear_answer, gear_buffer}
 use Rattle.gear.proofs.Buffer.{exact}
@@ -19,7 +18,7 @@ use Rattle.plan.proofs.Whole.{answer-is, buffer-is, up-to-long, trace-accepted, 
 use Rattle.plan.proofs.Parts.{part-is, rest-kept, answers_long, answers_rest, answer-given}
 use Rattle.claims.specs.Plans.{part_of, ByItself, Untouched}
 
-module _ (trace sheets rows answers : List ℕ) (accepted : judge_plan trace (length sheets) (length rows) (length answers) ≡ Accepted) where
+module _ (trace sheets rows answers : List ℕ) (accepted : judge_plan trace (length sheets) (length rows) (length answers) ≡ Ok tt) where
   abbrev count : ℕ
   count = vehicles_in (length sheets)
 

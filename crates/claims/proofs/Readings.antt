@@ -12,26 +12,24 @@ use Rattle.arith.specs.Fraction.{Fraction, ◌*ᶠ◌, Between}
 use Rattle.arith.proofs.Ring.{mul-one, mul_left_comm}
 use Rattle.reading.specs.declared.Message.{Message}
 use Rattle.reading.specs.declared.Message.TheVariants.{Ppm, Percent, OverRange, NotFitted}
+use Rattle.refusal.specs.declared.Gas.{Gas}
 use Rattle.refusal.proofs.Ranges.{both}
 use Rattle.reading.specs.declared.Bag.{Bag}
-use Rattle.reading.specs.declared.Worth.TheVariants.{Units}
+use Rattle.std.specs.Prelude.{Ok, Some}
 use Rattle.reading.specs.Units.{Exact, value, none, exact_value, times, units_of, is_fitted, cutter_units}
-use Rattle.reading.specs.Gas.{Gas, is_nmhc, message_at}
-use Rattle.reading.proofs.Gas.{by-gas}
 use Rattle.reading.proofs.Usable.{Usable, usable}
+use Rattle.bag.specs.Gas.{is_nmhc, message_at}
 use Rattle.bag.specs.declared.Part.{Part}
 use Rattle.bag.specs.declared.BagSheet.{BagSheet}
+use Rattle.bag.proofs.Gas.{by-gas}
 use Rattle.cutter.specs.NonMethane.{cutter_of, fitted_in}
 use Rattle.sides.specs.declared.Sides.{Sides}
-use Rattle.sides.specs.declared.PartRead.TheVariants as part_read
 use Rattle.sides.specs.declared.TestSides.{TestSides}
-use Rattle.sides.specs.declared.Read.TheVariants as read
 use Rattle.sides.specs.Gases.{ends_at}
 use Rattle.sides.specs.ReadIn.{worth_of, read_part, read_in}
 use Rattle.sides.proofs.Readings.{units-held}
 use Rattle.sides.proofs.Taken.{read-parts, third-read}
 use Rattle.emission.specs.declared.TestResult.{TestResult}
-use Rattle.emission.specs.declared.Answer.TheVariants.{Result}
 use Rattle.emission.specs.Test.{test_answer}
 use Rattle.claims.specs.Exact.{exact_ppm, PartPpm, TestPpm, has, Measured, TestMeasured, count}
 use Rattle.claims.proofs.Accepted.{accepted-result}
@@ -58,7 +56,7 @@ one-ppm : {q : Fraction} (x : Exact) → x ≡ value q → times (pos 1) x ≡ v
 one-ppm none h = absurd (no_value h)
 one-ppm (value v) h = rw (mul-one v.num, mul-one v.den) h
 
-reading-holds : (message : Message) {e : Ends} {q : Fraction} → units_of message ≡ Units e → exact_ppm message ≡ value q → In 256 e q
+reading-holds : (message : Message) {e : Ends} {q : Fraction} → units_of message ≡ Some e → exact_ppm message ≡ value q → In 256 e q
 reading-holds (Ppm x) r h = of-float 1 (exact_value x) (usable (Ppm x) r) (one-ppm (exact_value x) h)
 reading-holds (Percent x) r h = of-float 10000 (exact_value x) (usable (Percent x) r) h
 reading-holds OverRange r h = absurd (no_value h)
@@ -102,12 +100,12 @@ module _ (s : BagSheet) (b : Bag) (f : (cutter_of s).fitted ≡ true → is_fitt
       by-gas (λ gas. has s gas ≡ true → is_nmhc gas ≡ true → is_fitted (message_at gas b) ≡ true)
       (λ h n. absurd (false≢true n)) (λ h n. absurd (false≢true n)) (λ h n. absurd (false≢true n)) (λ h n. absurd (false≢true n)) (λ h n. f h)
 
-  as-units : (gas : Gas) → has s gas ≡ true → {e : Ends} → worth_of gas (message_at gas b) ≡ Units e → units_of (message_at gas b) ≡ Units e
+  as-units : (gas : Gas) → has s gas ≡ true → {e : Ends} → worth_of gas (message_at gas b) ≡ Some e → units_of (message_at gas b) ≡ Some e
   unfolding cutter_units
   as-units gas h {e} = go (is_nmhc gas) (there gas h)
     where
       go : (behind : Bool) → (behind ≡ true → is_fitted (message_at gas b) ≡ true)
-          → cond behind (cutter_units (message_at gas b)) (units_of (message_at gas b)) ≡ Units e → units_of (message_at gas b) ≡ Units e
+          → cond behind (cutter_units (message_at gas b)) (units_of (message_at gas b)) ≡ Some e → units_of (message_at gas b) ≡ Some e
       go true fitted is = rw (fitted refl) at is
       go false fitted is = is
 
@@ -116,7 +114,7 @@ pub record ReadAs (s : BagSheet) (sides : Sides) (x : PartPpm) : Type 0 where
   pub bag : (gas : Gas) → has s gas ≡ true → In 256 (ends_at gas sides.bag) (x.bag gas)
   pub air : (gas : Gas) → has s gas ≡ true → In 256 (ends_at gas sides.air) (x.air gas)
 
-pub read_as : (part : ℕ) (s : BagSheet) (p : Part) {sides : Sides} {x : PartPpm} → Fitted s p → read_part part p ≡ part_read.Units sides → Measured s p x → ReadAs s sides x
+pub read_as : (part : ℕ) (s : BagSheet) (p : Part) {sides : Sides} {x : PartPpm} → Fitted s p → read_part part p ≡ Ok sides → Measured s p x → ReadAs s sides x
 read_as part s p {sides} f read m =
     let held = units-held part p sides read in
     record {
@@ -129,21 +127,21 @@ pub record NarrowSides (sides : Sides) : Type 0 where
   pub bag : (gas : Gas) → is_nmhc gas ≡ false → Narrow 1 (ends_at gas sides.bag)
   pub air : (gas : Gas) → is_nmhc gas ≡ false → Narrow 1 (ends_at gas sides.air)
 
-worth-narrow : (gas : Gas) (message : Message) {e : Ends} → is_nmhc gas ≡ false → worth_of gas message ≡ Units e → Narrow 1 e
+worth-narrow : (gas : Gas) (message : Message) {e : Ends} → is_nmhc gas ≡ false → worth_of gas message ≡ Some e → Narrow 1 e
 worth-narrow gas message n is = (usable message (rw n at is)).narrow
 
-pub read-narrow : (part : ℕ) (p : Part) {sides : Sides} → read_part part p ≡ part_read.Units sides → NarrowSides sides
+pub read-narrow : (part : ℕ) (p : Part) {sides : Sides} → read_part part p ≡ Ok sides → NarrowSides sides
 read-narrow part p {sides} read =
     let held = units-held part p sides read in
     record { bag = λ gas n. worth-narrow gas _ n (held gas).bag; air = λ gas n. worth-narrow gas _ n (held gas).air }
 
 -- ---- the test: of each part of the class
 pub record TestRead (s : BagSheet) (readings : TestSides) : Type 0 where
-  pub first : read_part 1 s.first ≡ part_read.Units readings.first
-  pub second : read_part 2 s.second ≡ part_read.Units readings.second
-  pub third : s.class ≡ 3 → read_part 3 s.third ≡ part_read.Units readings.third
+  pub first : read_part 1 s.first ≡ Ok readings.first
+  pub second : read_part 2 s.second ≡ Ok readings.second
+  pub third : s.class ≡ 3 → read_part 3 s.third ≡ Ok readings.third
 
-pub test_read : {s : BagSheet} {readings : TestSides} → read_in s ≡ read.Units readings → TestRead s readings
+pub test_read : {s : BagSheet} {readings : TestSides} → read_in s ≡ Ok readings → TestRead s readings
 test_read {s} e =
     let parts = read-parts e in
     record { first = parts.first; second = parts.second; third = third-read s.class s.third parts.third }
@@ -161,7 +159,7 @@ of-usable : (k : ℕ) (x : Exact) {e : Ends} → Usable (times (pos k) x) e → 
 of-usable k none u = absurd (no_value u.is)
 of-usable k (value q) u = (q, refl)
 
-has_value : (message : Message) {e : Ends} → units_of message ≡ Units e → exact_ppm message ≡ value (value_of (exact_ppm message))
+has_value : (message : Message) {e : Ends} → units_of message ≡ Some e → exact_ppm message ≡ value (value_of (exact_ppm message))
 has_value (Ppm x) r = kept (exact_value x) (of-usable 256 (exact_value x) (usable (Ppm x) r)).1
 has_value (Percent x) r = kept (times (pos 10000) (exact_value x)) (ap (times (pos 10000)) (of-usable 2560000 (exact_value x) (usable (Percent x) r)).1)
 has_value OverRange r = absurd (no_value (usable OverRange r).is)
@@ -170,7 +168,7 @@ has_value NotFitted r = absurd (no_value (usable NotFitted r).is)
 abbrev measured_in : Part → PartPpm
 measured_in p = record { bag = λ gas. value_of (exact_ppm (message_at gas p.bag)); air = λ gas. value_of (exact_ppm (message_at gas p.air)) }
 
-part-measured : (part : ℕ) (s : BagSheet) (p : Part) {sides : Sides} → Fitted s p → read_part part p ≡ part_read.Units sides → Measured s p (measured_in p)
+part-measured : (part : ℕ) (s : BagSheet) (p : Part) {sides : Sides} → Fitted s p → read_part part p ≡ Ok sides → Measured s p (measured_in p)
 part-measured part s p {sides} f read =
     let held = units-held part p sides read in
     record {
@@ -178,8 +176,8 @@ part-measured part s p {sides} f read =
       air = λ gas h. has_value _ (as-units s p.air f.air gas h (held gas).air);
     }
 
-module _ (s : BagSheet) (r : TestResult) (e : test_answer s ≡ Result r) where
-  pub ends_read : (readings : TestSides) × (read_in s ≡ read.Units readings)
+module _ (s : BagSheet) (r : TestResult) (e : test_answer s ≡ Ok r) where
+  pub ends_read : (readings : TestSides) × (read_in s ≡ Ok readings)
   ends_read = let a = accepted-result e in (a.readings, a.read)
 
   pub measured : (x : TestPpm) × TestMeasured s x

@@ -6,8 +6,8 @@ use Prim.Native.Nat.{ℕ, ◌+◌, ◌*◌, ◌≤◌, ◌<◌}
 use native.Mathlib.Omega.{arith}
 use lib.ListN.{length, take, drop, length-append, length-drop}
 use lib.Seq.{length-take-le, take_at, drop_at, drop-drop}
-use Rattle.refusal.specs.declared.Judged.{Judged}
-use Rattle.refusal.specs.declared.Judged.TheVariants.{Accepted, Refused}
+use Rattle.std.specs.Prelude.{Ok, Err}
+use Rattle.refusal.specs.Judging.{Judged, if_accepted}
 use Rattle.refusal.specs.declared.Refusal.{Refusal}
 use Rattle.refusal.proofs.Judging.{then-holds}
 use Rattle.house.specs.House.{count_of, flags_at, speed_at}
@@ -19,7 +19,6 @@ use Rattle.phase.proofs.Stops.{first-length}
 use Rattle.clutch.specs.Clutch.{clutch_of}
 use Rattle.clutch.proofs.Clutch.{clutch-length, clutch-gear, clutch-at, clutch-of-most}
 use Rattle.runs.proofs.Frame.{corrected-length}
-use Rattle.refusal.specs.Judging.{if_accepted}
 use Rattle.own.specs.Own.{judge_close}
 use Rattle.gear.specs.Sheet.{judge_sheet, gear_answer, own_of, with_row, row_of, gear_buffer}
 use Rattle.gear.proofs.Sheet.{Sound, sheet-sound, buffer-refused}
@@ -47,10 +46,10 @@ module _ (v : VehicleSheet) (trace : List ℕ) (n : ℕ) where
 -- ---- in the buffer
 module _ (trace : List ℕ) (v : VehicleSheet) (buffer : List ℕ) (start : ℕ) where
   -- "buffers stay as lent"
-  pub refused-kept : {refusal : Refusal} → gear_answer trace v (length buffer) start ≡ Refused refusal → gear_buffer trace v buffer start ≡ buffer
+  pub refused-kept : {refusal : Refusal} → gear_answer trace v (length buffer) start ≡ Err refusal → gear_buffer trace v buffer start ≡ buffer
   refused-kept e = sym (buffer-refused trace v buffer start e)
 
-  module _ (accepted : gear_answer trace v (length buffer) start ≡ Accepted) where
+  module _ (accepted : gear_answer trace v (length buffer) start ≡ Ok tt) where
     pub accepted-sound : Sound trace v (length buffer) start
     unfolding gear_answer
     accepted-sound =

@@ -5,14 +5,14 @@ use Prim.Native.Nat.{ℕ, ◌+◌, ◌≤◌, ◌<◌}
 use native.Mathlib.Omega.{arith}
 use lib.Dec.{leb, ltb}
 use borrow.Author.Tests.{leb-true, leb-false, lt-ltb, le-ltb}
-use Rattle.refusal.specs.declared.Judged.TheVariants.{Accepted}
+use Rattle.std.specs.Prelude.{Ok}
 use Rattle.vehicle.specs.declared.VehicleSheet.{VehicleSheet}
 use Rattle.vehicle.specs.Sheet.{ndv_at, judge_vehicle, Sound}
 use Rattle.vehicle.proofs.Sound.{accepted-sound}
 use Rattle.shift.specs.Speeds.{below, shift_of}
+use Rattle.shift.proofs.Sides.{vehicle-worked}
 use Rattle.tenths.specs.declared.LeastTenths.{LeastTenths}
 use Rattle.tenths.specs.Least.{least_of, tenths_of}
-use Rattle.tenths.proofs.Sizes.{vehicle-worked}
 use Rattle.tenths.proofs.Comparing.{above-by-tenths, not-below-by-tenths}
 use Rattle.tenths.proofs.Places.{place_here, place-past}
 use Rattle.tenths.proofs.Choosing.{own-by-tenths}
@@ -57,7 +57,7 @@ module _ {v : VehicleSheet} (sound : Sound v) where
   unfolding tenths_of shift_of
   past-them i l at = (place-past (shift_of v) i (λ (t : LeastTenths). t.above) at l, place-past (shift_of v) i (λ (t : LeastTenths). t.not_below) at l)
 
-pub by-tenths : (v : VehicleSheet) → judge_vehicle v ≡ Accepted → ByTenths v
+pub by-tenths : (v : VehicleSheet) → judge_vehicle v ≡ Ok tt → ByTenths v
 by-tenths v accepted =
     let sound = accepted-sound v accepted in
     record {

@@ -10,8 +10,11 @@ use lib.Dec.{eqb, leb, ltb}
 use lib.IntN.{pos}
 use borrow.Author.Tests.{lt-ltb, ltb-true, ltb-false, le-leb, lt-leb, eqb-true, eq-eqb}
 use Rattle.arith.specs.Stages.{exactly}
+use Rattle.refusal.specs.declared.Gas.TheVariants.{NMHC}
 use Rattle.refusal.specs.declared.Refusal.{Refusal}
-use Rattle.refusal.specs.declared.Judged.TheVariants.{Refused}
+use Rattle.std.specs.Prelude.{Ok, Err, Result, Some}
+use Rattle.emission.specs.declared.TestResult.{TestResult}
+use Rattle.sides.specs.declared.TestSides.{TestSides}
 use Rattle.refusal.specs.Ranges.{within}
 use Rattle.refusal.specs.Judging.{checked, Check, judged_by}
 use Rattle.refusal.proofs.Ranges.{range, both as apart}
@@ -21,19 +24,13 @@ use Rattle.trace.specs.Judging.{judge_pair}
 use Rattle.gear.specs.Sheet.{gear_answer}
 use Rattle.stage.specs.Part.{humidity_good}
 use Rattle.reading.specs.declared.Message.{Message}
-use Rattle.reading.specs.declared.Worth.TheVariants.{Units}
 use Rattle.reading.specs.Units.{units_of, is_fitted, cutter_units}
-use Rattle.reading.specs.Gas.{NMHC}
 use Rattle.bag.specs.declared.Part.{Part}
 use Rattle.bag.specs.declared.BagSheet.{BagSheet}
 use Rattle.bag.specs.Sheet.{test_checks, value_checks, sheet_checks}
 use Rattle.cutter.specs.NonMethane.{cutter_of, cutter_good}
-use Rattle.sides.specs.declared.Read.{Read}
-use Rattle.sides.specs.declared.Read.TheVariants as read
 use Rattle.sides.specs.ReadIn.{is_usable, reading_checks, read_in, message_checks}
 use Rattle.late.specs.Late.{late_checks}
-use Rattle.emission.specs.declared.Answer.{Answer}
-use Rattle.emission.specs.declared.Answer.TheVariants as answer
 use Rattle.emission.specs.Test.{test_answer}
 use Rattle.outcome.specs.declared.Outcome.{Outcome}
 use Rattle.outcome.specs.Outcome.{outcome_of}
@@ -84,7 +81,7 @@ decides ls some =
 
 -- ---- the core's checks as lines
 abbrev line_of : Check → Line
-line_of c = record { holds = c.holds; gives = outcome_of (Refused c.refusal) }
+line_of c = record { holds = c.holds; gives = outcome_of (Err c.refusal) }
 
 abbrev pub lines_of : List Check → List Line
 lines_of [] = []
@@ -96,7 +93,7 @@ given-first [] = refl
 given-first (c ∷ cs) = go c.holds (given-first cs)
   where
     go : (b : Bool) → outcome_of (judged_by cs) ≡ first_of (lines_of cs)
-        → outcome_of (checked b c.refusal (judged_by cs)) ≡ cond b (first_of (lines_of cs)) (outcome_of (Refused c.refusal))
+        → outcome_of (checked b c.refusal (judged_by cs)) ≡ cond b (first_of (lines_of cs)) (outcome_of (Err c.refusal))
     go true later = later
     go false later = refl
 
@@ -252,7 +249,7 @@ cutter-readable : (sent : Message) → is_usable (cutter_units sent) ≡ readabl
 unfolding cutter_units
 cutter-readable sent = go (is_fitted sent)
   where
-    go : (fitted : Bool) → is_usable (cond fitted (units_of sent) (Units (exactly (pos 0)))) ≡ (not fitted || is_usable (units_of sent))
+    go : (fitted : Bool) → is_usable (cond fitted (units_of sent) (Some (exactly (pos 0)))) ≡ (not fitted || is_usable (units_of sent))
     go true = refl
     go false = refl
 
@@ -286,26 +283,26 @@ module _ (s : BagSheet) where
       cutter : (p : Part) → (is_usable (cutter_units p.bag.cutter) ≡ readable NMHC p.bag.cutter) × (is_usable (cutter_units p.air.cutter) ≡ readable NMHC p.air.cutter)
       cutter p = (cutter-readable p.bag.cutter, cutter-readable p.air.cutter)
 
-      go : (b : Bool) → eqb s.class 3 ≡ b → (x : Read) → read_in s ≡ x → lines_of (emission_checks s) ≡ emission_table s
-      go true class (read.Units r) was = rw (was, efficiency-good s, (cutter s.first).0, (cutter s.first).1, (cutter s.second).0, (cutter s.second).1, (cutter s.third).0, (cutter s.third).1, class)
-      go true class (read.Refused refusal) was = rw (was, (cutter s.first).0, (cutter s.first).1, (cutter s.second).0, (cutter s.second).1, (cutter s.third).0, (cutter s.third).1, class)
-      go false class (read.Units r) was = rw (was, efficiency-good s, (cutter s.first).0, (cutter s.first).1, (cutter s.second).0, (cutter s.second).1, class)
-      go false class (read.Refused refusal) was = rw (was, (cutter s.first).0, (cutter s.first).1, (cutter s.second).0, (cutter s.second).1, class)
+      go : (b : Bool) → eqb s.class 3 ≡ b → (x : (Result TestSides Refusal)) → read_in s ≡ x → lines_of (emission_checks s) ≡ emission_table s
+      go true class (Ok r) was = rw (was, efficiency-good s, (cutter s.first).0, (cutter s.first).1, (cutter s.second).0, (cutter s.second).1, (cutter s.third).0, (cutter s.third).1, class)
+      go true class (Err refusal) was = rw (was, (cutter s.first).0, (cutter s.first).1, (cutter s.second).0, (cutter s.second).1, (cutter s.third).0, (cutter s.third).1, class)
+      go false class (Ok r) was = rw (was, efficiency-good s, (cutter s.first).0, (cutter s.first).1, (cutter s.second).0, (cutter s.second).1, class)
+      go false class (Err refusal) was = rw (was, (cutter s.first).0, (cutter s.first).1, (cutter s.second).0, (cutter s.second).1, class)
 
   pub emission-rising : rising (outcome 10 0 0 0) (emission_table s) ≡ true
   emission-rising = go (eqb s.class 3) refl (read_in s) refl
     where
-      go : (b : Bool) → eqb s.class 3 ≡ b → (x : Read) → read_in s ≡ x → rising (outcome 10 0 0 0) (emission_table s) ≡ true
-      go true class (read.Units r) was = rw (was, class)
-      go true class (read.Refused refusal) was = rw (was, class)
-      go false class (read.Units r) was = rw (was, class)
-      go false class (read.Refused refusal) was = rw (was, class)
+      go : (b : Bool) → eqb s.class 3 ≡ b → (x : (Result TestSides Refusal)) → read_in s ≡ x → rising (outcome 10 0 0 0) (emission_table s) ≡ true
+      go true class (Ok r) was = rw (was, class)
+      go true class (Err refusal) was = rw (was, class)
+      go false class (Ok r) was = rw (was, class)
+      go false class (Err refusal) was = rw (was, class)
 
   -- what stands beside the figures is the answer judged
-  given_out : (a : Answer) → (result_out a).outcome ≡ outcome_of (judged_answer a)
+  given_out : (a : (Result TestResult Refusal)) → (result_out a).outcome ≡ outcome_of (judged_answer a)
   unfolding with_nothing
-  given_out (answer.Result result) = refl
-  given_out (answer.Refused refusal) = refl
+  given_out (Ok result) = refl
+  given_out (Err refusal) = refl
 
   pub emission-table : (result_out (test_answer s)).outcome ≡ first_of (emission_table s)
   emission-table =

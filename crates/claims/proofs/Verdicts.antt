@@ -2,24 +2,28 @@
 -- the limit is at or above the lower end and below the upper. Assumes nothing.
 use mathlib.Core.Path.{◌≡◌, refl}
 use mathlib.Core.Logic.{⊎_elim}
-use mathlib.Core.Bool.{Bool, true, false, not, cond, ◌||◌, false≢true}
+use mathlib.Core.Bool.{Bool, true, false, cond, false≢true}
 use Prim.Native.Nat.{ℕ}
 use lib.IntN.{ℤ, pos}
+use Rattle.std.specs.Prelude.{None, Option, Some, Ok}
 use lib.Signed.{◌<ℤ◌, le_z, lt_z, clash_ℤ, <ℤ-≤ℤ_trans}
 use Rattle.arith.specs.declared.Ends.{Ends}
 use Rattle.arith.specs.Fraction.{Fraction, Between}
 use Rattle.arith.proofs.Ring.{mul_mono, mul-mono-<, ≤_trans, <-≤, ≤-or-<}
 use Rattle.arith.proofs.Machine.{lt-true, lt-false, le-true}
-use Rattle.reading.specs.Gas.{Gas, is_nmhc}
+use Rattle.refusal.specs.declared.Gas.{Gas}
+use Rattle.refusal.specs.declared.Gas.TheVariants.{NMHC}
+use Rattle.bag.specs.Gas.{is_nmhc}
 use Rattle.bag.specs.declared.BagSheet.{BagSheet}
 use Rattle.bag.specs.Sheet.{limit_at}
+use Rattle.bag.proofs.Gas.{by-gas}
+use Rattle.weigh.specs.declared.Verdict.{Verdict}
 use Rattle.weigh.specs.declared.Verdict.TheVariants.{Pass, Fail, Undecided}
 use Rattle.weigh.specs.Test.{verdict_of}
 use Rattle.cutter.specs.NonMethane.{cutter_of}
 use Rattle.sides.specs.declared.TestSides.{TestSides}
 use Rattle.sides.specs.Gases.{ends_at}
 use Rattle.emission.specs.declared.TestResult.{TestResult}
-use Rattle.emission.specs.declared.Answer.TheVariants.{Result}
 use Rattle.emission.specs.Test.{parts_in, verdict_at, nmhc_verdict, verdicts_of, result_of, test_answer}
 use Rattle.emission.proofs.Each.{verdict-at}
 use Rattle.claims.specs.Exact.{TestPpm, has, TestMeasured}
@@ -32,11 +36,11 @@ pub above : {a b : ℤ} → le_z a b ≡ false → b <ℤ a
 above {a} {b} e = ⊎_elim (λ p. absurd (rw e at p.le)) (λ p. p) (≤-or-< a b)
 
 module _ {e : Ends} {q : Fraction} (h : Between e q) (limit : ℕ) where
-  pub justified : Justified e q limit (verdict_of e limit)
+  pub justified : Justified e q limit (Some (verdict_of e limit))
   unfolding verdict_of
   justified = go (le_z e.upper (pos limit)) (lt_z (pos limit) e.lower) refl refl
     where
-      go : (t u : Bool) → le_z e.upper (pos limit) ≡ t → lt_z (pos limit) e.lower ≡ u → Justified e q limit (cond t Pass (cond u Fail Undecided))
+      go : (t u : Bool) → le_z e.upper (pos limit) ≡ t → lt_z (pos limit) e.lower ≡ u → Justified e q limit (Some (cond t Pass (cond u Fail Undecided)))
       go true u x y =
           record {
             pass = λ v. ≤_trans h.below (mul_mono q.den (<-≤ h.positive) (le-true x));
@@ -68,19 +72,26 @@ verdicts-in : (s : BagSheet) (r : TestResult) (readings : TestSides) →
 unfolding result_of
 verdicts-in s r readings e = rw e
 
--- of a gas that the test has
-verdict-there : (s : BagSheet) (r : TestResult) (gas : Gas) → has s gas ≡ true → r.verdicts ≡ verdicts_of (cutter_of s).fitted r.weighted s.limits →
-    verdict_at gas r.verdicts ≡ verdict_of (ends_at gas r.weighted) (limit_at gas s.limits)
-unfolding verdicts_of nmhc_verdict
-verdict-there s r gas there e = rw (e, verdict-at gas) (go (is_nmhc gas) (cutter_of s).fitted there)
-  where
-    go : (fifth fitted : Bool) → (not fifth || fitted) ≡ true →
-        cond fifth (nmhc_verdict fitted) verdict_of (ends_at gas r.weighted) (limit_at gas s.limits) ≡ verdict_of (ends_at gas r.weighted) (limit_at gas s.limits)
-    go true true h = refl
-    go true false h = absurd (false≢true h)
-    go false fitted h = refl
+-- the verdict of a gas's weighted ends, which is that of every gas that the test has
+abbrev own : BagSheet → TestResult → Gas → Verdict
+own s r gas = verdict_of (ends_at gas r.weighted) (limit_at gas s.limits)
 
-pub verdicts : (s : BagSheet) (x : TestPpm) (r : TestResult) → test_answer s ≡ Result r → TestMeasured s x → (gas : Gas) → has s gas ≡ true → JustifiedIn s x r gas
+verdict-there : (s : BagSheet) (r : TestResult) (gas : Gas) → has s gas ≡ true → r.verdicts ≡ verdicts_of (cutter_of s).fitted r.weighted s.limits →
+    verdict_at gas r.verdicts ≡ Some (verdict_of (ends_at gas r.weighted) (limit_at gas s.limits))
+unfolding verdicts_of nmhc_verdict
+verdict-there s r gas there e =
+    rw (e, verdict-at gas)
+    (by-gas (λ gas. has s gas ≡ true → cond (is_nmhc gas) fifth (Some (own s r gas)) ≡ Some (own s r gas))
+    (λ h. refl) (λ h. refl) (λ h. refl) (λ h. refl) (go (cutter_of s).fitted) gas there)
+  where
+    fifth : Option Verdict
+    fifth = cond (cutter_of s).fitted (Some (own s r NMHC)) None
+
+    go : (fitted : Bool) → fitted ≡ true → cond fitted (Some (own s r NMHC)) None ≡ Some (own s r NMHC)
+    go true h = refl
+    go false h = absurd (false≢true h)
+
+pub verdicts : (s : BagSheet) (x : TestPpm) (r : TestResult) → test_answer s ≡ Ok r → TestMeasured s x → (gas : Gas) → has s gas ≡ true → JustifiedIn s x r gas
 verdicts s x r e m gas there =
     let a = accepted-result e in
     rw (verdict-there s r gas there (verdicts-in s r a.readings a.result)) (justified ((contained s x r e m).weighted gas there) (limit_at gas s.limits))

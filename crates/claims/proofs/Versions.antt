@@ -8,7 +8,7 @@ use native.Mathlib.Omega.{arith}
 use lib.ListN.{length, take, drop}
 use lib.Dec.{eqb}
 use borrow.Author.Tests.{le-leb}
-use Rattle.refusal.specs.declared.Judged.TheVariants.{Accepted}
+use Rattle.std.specs.Prelude.{Ok}
 use Rattle.refusal.specs.declared.Refusal.TheVariants.{Count}
 use Rattle.refusal.specs.Judging.{and_then, if_accepted}
 use Rattle.refusal.proofs.Judging.{checked-holds, then-holds}
@@ -35,13 +35,13 @@ use Rattle.claims.specs.Versions.{Idle, SameSheet, ReadBack}
 
 -- ---- version 2
 -- an accepted one has no mark
-second-unmarked : (trace : List ℕ) → judge_trace trace ≡ Accepted → version_of trace ≡ 2 → (k : ℕ) → k < count_of trace → marked (flags_at trace k) ≡ false
+second-unmarked : (trace : List ℕ) → judge_trace trace ≡ Ok tt → version_of trace ≡ 2 → (k : ℕ) → k < count_of trace → marked (flags_at trace k) ≡ false
 second-unmarked trace e two k l =
     let good = good-second (version_of trace) (speed_at trace k) (flags_at trace k) (zero_at trace k) (seconds-good trace e k l) in
     let allowed = ap (λ (version : ℕ). allows version (flags_at trace k)) (sym two) ∙ good.1 in
     phase-unmarked (flags_at trace k) (allowed-second (flags_at trace k) allowed)
 
-pub idle : (trace : List ℕ) → judge_trace trace ≡ Accepted → version_of trace ≡ 2 → Idle trace
+pub idle : (trace : List ℕ) → judge_trace trace ≡ Ok tt → version_of trace ≡ 2 → Idle trace
 idle trace e two =
     let none = second-unmarked trace e two in
     record {
@@ -62,7 +62,7 @@ module _ (trace : List ℕ) (plain : Plain trace) where
   unfolding judge_sheet
   sheet-same v room start =
       (λ i. and_then (judged-same trace plain i)
-      (and_then (judge_vehicle v) (and_then (cond (eqb v.rules 2) (marks-same trace plain i) Accepted) (judge_room (count_same trace plain i) room start))))
+      (and_then (judge_vehicle v) (and_then (cond (eqb v.rules 2) (marks-same trace plain i) (Ok tt)) (judge_room (count_same trace plain i) room start))))
 
   answer-same : (v : VehicleSheet) (room start : ℕ) → gear_answer other v room start ≡ gear_answer trace v room start
   unfolding gear_answer
@@ -80,15 +80,15 @@ module _ (trace : List ℕ) (plain : Plain trace) where
   same-sheet = record { answer = answer-same; buffer = buffer-same }
 
 -- ---- the writer
-module _ (seconds : List ℕ) (room : ℕ) (e : write_answer seconds room ≡ Accepted) where
+module _ (seconds : List ℕ) (room : ℕ) (e : write_answer seconds room ≡ Ok tt) where
   abbrev n : ℕ
   n = count_in seconds
 
-  past : (counted seconds ≡ true) × (and_then (writing.judge_seconds seconds 0 n) (writing.judge_room n room) ≡ Accepted)
+  past : (counted seconds ≡ true) × (and_then (writing.judge_seconds seconds 0 n) (writing.judge_room n room) ≡ Ok tt)
   unfolding write_answer
   past = checked-holds (counted seconds) Count (and_then (writing.judge_seconds seconds 0 n) (writing.judge_room n room)) e
 
-  taken : writing.judge_seconds seconds 0 n ≡ Accepted
+  taken : writing.judge_seconds seconds 0 n ≡ Ok tt
   taken = (then-holds (writing.judge_seconds seconds 0 n) (writing.judge_room n room) past.1).0
 
   in-range : countable n ≡ true
@@ -102,7 +102,7 @@ module _ (seconds : List ℕ) (room : ℕ) (e : write_answer seconds room ≡ Ac
       (ap (allows 2) (file-flags 2 (speed_in seconds) (phase_in seconds) n k l) ∙ le-leb (phase_in seconds k) 3 (phases-few seconds n taken k l))
       (file-zero 2 (speed_in seconds) (phase_in seconds) n k l)
 
-  file-accepted : judge_trace (written seconds) ≡ Accepted
+  file-accepted : judge_trace (written seconds) ≡ Ok tt
   file-accepted =
       let long = file-length 2 (speed_in seconds) (phase_in seconds) n in
       let count = file-count 2 (speed_in seconds) (phase_in seconds) n in

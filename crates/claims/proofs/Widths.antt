@@ -17,8 +17,11 @@ use Rattle.arith.specs.Fitting.{Sized, Narrow}
 use Rattle.arith.proofs.Parts.{zs, mul-parts}
 use Rattle.arith.proofs.Size.{abs-parts, wider-size, product-size, scaled-size, divided-size}
 use Rattle.arith.proofs.Width.{exactly-narrow, wider-narrow, sum-narrow, difference-narrow, scaled-narrow, product_narrow, divided-narrow}
-use Rattle.reading.specs.Gas.{Gas, HC, CO, CO2, is_nox, is_nmhc}
-use Rattle.refusal.specs.declared.Judged.TheVariants.{Accepted}
+use Rattle.std.specs.Prelude.{Ok, Result}
+use Rattle.refusal.specs.declared.Gas.{Gas}
+use Rattle.refusal.specs.declared.Gas.TheVariants.{HC, CO, CO2}
+use Rattle.refusal.specs.declared.Refusal.{Refusal}
+use Rattle.bag.specs.Gas.{is_nox, is_nmhc}
 use Rattle.bag.specs.declared.Part.{Part}
 use Rattle.bag.specs.declared.Triple.{Triple}
 use Rattle.bag.specs.declared.BagSheet.{BagSheet}
@@ -39,8 +42,6 @@ use Rattle.cutter.specs.declared.Cutter.{Cutter}
 use Rattle.cutter.specs.NonMethane.{cutter_of}
 use Rattle.sides.specs.declared.Sides.{Sides}
 use Rattle.sides.specs.declared.TestSides.{TestSides}
-use Rattle.sides.specs.declared.Read.{Read}
-use Rattle.sides.specs.declared.Read.TheVariants.{Units}
 use Rattle.sides.specs.Gases.{ends_at, nothing}
 use Rattle.sides.specs.ReadIn.{read_in}
 use Rattle.sides.proofs.Each.{each_at}
@@ -48,7 +49,6 @@ use Rattle.part.specs.Part.{g_in, volume_in, staged_of, gas_mass, mass_in, rates
 use Rattle.part.specs.Ranges.{PartRanges}
 use Rattle.part.proofs.Sizes.{volume-ranges, staged-read, masses-ranges, kh-ranges}
 use Rattle.emission.specs.declared.TestResult.{TestResult}
-use Rattle.emission.specs.declared.Answer.TheVariants.{Result}
 use Rattle.late.specs.Late.{judge_late}
 use Rattle.late.specs.Ranges.{PartsRanges}
 use Rattle.late.proofs.Late.{parts-ranges}
@@ -225,16 +225,16 @@ asked : (nox : Bool) → proven_width nox ≤ width_of nox
 asked true = omega arith
 asked false = omega arith
 
-same-readings : {x : Read} {a b : TestSides} → x ≡ Units a → x ≡ Units b → a ≡ b
+same-readings : {x : (Result TestSides Refusal)} {a b : TestSides} → x ≡ Ok a → x ≡ Ok b → a ≡ b
 same-readings p q = cc
 
-module _ (s : BagSheet) (readings : TestSides) (r : TestResult) (e : test_answer s ≡ Result r) (read : read_in s ≡ Units readings) where
+module _ (s : BagSheet) (readings : TestSides) (r : TestResult) (e : test_answer s ≡ Ok r) (read : read_in s ≡ Ok readings) where
   pub proven-widths : (gas : Gas) → OrdinaryTest gas s readings → Narrow (proven_width (is_nox gas)) (ends_at gas r.weighted)
   proven-widths gas o =
       let a = accepted-result e in
       let sound = accepted-sound s a.sheet in
       let same : a.readings ≡ readings = same-readings a.read read in
-      let late : judge_late s (cutter_of s) readings ≡ Accepted = rw same at a.late in
+      let late : judge_late s (cutter_of s) readings ≡ Ok tt = rw same at a.late in
       let weighted = weighted-in sound.tested (test_read read) (parts-ranges sound read late) gas o in
       rw (a.result, same) (wider-narrow (two-more (is_nox gas)) weighted)
 

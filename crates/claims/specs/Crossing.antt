@@ -1,13 +1,14 @@
--- What crosses the boundary, number by number, as include/ylhovesko.h tells a bench: kinds of a message, gases, verdicts, the four numbers of an outcome, the chosen one
+-- What crosses the boundary, number by number, as include/ylhovesko.h tells a bench: kinds of a message, gases, sides, verdicts, the four numbers of an outcome, the chosen one
 -- of a pair; and 001's figures of the fuels (paragraph 8), as decimals beside the sheet's whole numbers.
-use Rattle.std.specs.Prelude.{true, false, List, [], ◌∷◌, ℕ, ◌*◌}
+use Rattle.std.specs.Prelude.{true, false, List, [], ◌∷◌, ℕ, ◌*◌, None, Some, Ok, Err}
 use Rattle.std.specs.Float.Ieee.{of_bits}
 use Rattle.std.specs.Float.{binary32}
+use Rattle.refusal.specs.declared.Gas.TheVariants.{HC, CO, NOx, CO2, NMHC}
+use Rattle.refusal.specs.declared.Side.TheVariants.{Bag, Air}
+use Rattle.refusal.specs.Table.{gas_number, side_number}
 use Rattle.refusal.specs.declared.Refusal.TheVariants.{Header, Second, Vehicle, Ratio, Value, Reading, Humidity, ReferenceMass, RotatingOrSpeed, LotSize, Efficiencies, LotRecord}
-use Rattle.refusal.specs.declared.Judged.TheVariants.{Accepted, Refused}
 use Rattle.reading.specs.declared.Message.TheVariants.{Ppm, Percent, OverRange, NotFitted}
-use Rattle.reading.specs.Gas.{HC, CO, NOx, CO2, NMHC, gas_number}
-use Rattle.weigh.specs.declared.Verdict.TheVariants.{Pass, Fail, Undecided, NoVerdict}
+use Rattle.weigh.specs.declared.Verdict.TheVariants.{Pass, Fail, Undecided}
 use Rattle.preset.specs.Preset.{petrol_of, diesel_of}
 use Rattle.outcome.specs.Outcome.{outcome_of, chosen_of}
 use Rattle.record.specs.Record.{verdict_number, flag_of}
@@ -35,29 +36,31 @@ crossing =
     ∷ (gas_number NOx gives 3)
     ∷ (gas_number CO2 gives 4)
     ∷ (gas_number NMHC gives 5)
-    ∷ (verdict_number Pass gives 1)
-    ∷ (verdict_number Fail gives 2)
-    ∷ (verdict_number Undecided gives 3)
-    ∷ (verdict_number NoVerdict gives 0)
+    ∷ (side_number Bag gives 1)
+    ∷ (side_number Air gives 2)
+    ∷ (verdict_number (Some Pass) gives 1)
+    ∷ (verdict_number (Some Fail) gives 2)
+    ∷ (verdict_number (Some Undecided) gives 3)
+    ∷ (verdict_number None gives 0)
     ∷ (flag_of false gives 0)
     ∷ (flag_of true gives 1)
-    ∷ (outcome_of Accepted gives outcome 0 0 0 0)
-    ∷ (outcome_of (Refused Header) gives outcome 1 0 0 0)
-    ∷ (outcome_of (Refused (Second 7)) gives outcome 4 7 0 0)
-    ∷ (outcome_of (Refused (Vehicle 6)) gives outcome 5 6 0 0)
-    ∷ (outcome_of (Refused (Ratio 2)) gives outcome 6 2 0 0)
-    ∷ (outcome_of (Refused (Value 3 9)) gives outcome 11 3 9 0)
-    ∷ (outcome_of (Refused (Reading 2 3 1)) gives outcome 12 2 3 1)
-    ∷ (outcome_of (Refused (Humidity 2)) gives outcome 14 2 0 0)
-    ∷ (outcome_of (Refused ReferenceMass) gives outcome 16 0 0 0)
-    ∷ (outcome_of (Refused RotatingOrSpeed) gives outcome 17 0 0 0)
-    ∷ (outcome_of (Refused LotSize) gives outcome 18 0 0 0)
-    ∷ (outcome_of (Refused Efficiencies) gives outcome 19 0 0 0)
-    ∷ (outcome_of (Refused (LotRecord 0)) gives outcome 21 0 0 0)
-    ∷ (outcome_of (Refused (LotRecord 255)) gives outcome 21 255 0 0)
-    ∷ (chosen_of Accepted false gives 1)
-    ∷ (chosen_of Accepted true gives 2)
-    ∷ (chosen_of (Refused Header) true gives 0)
+    ∷ (outcome_of (Ok tt) gives outcome 0 0 0 0)
+    ∷ (outcome_of (Err Header) gives outcome 1 0 0 0)
+    ∷ (outcome_of (Err (Second 7)) gives outcome 4 7 0 0)
+    ∷ (outcome_of (Err (Vehicle 6)) gives outcome 5 6 0 0)
+    ∷ (outcome_of (Err (Ratio 2)) gives outcome 6 2 0 0)
+    ∷ (outcome_of (Err (Value 3 9)) gives outcome 11 3 9 0)
+    ∷ (outcome_of (Err (Reading 2 NOx Bag)) gives outcome 12 2 3 1)
+    ∷ (outcome_of (Err (Humidity 2)) gives outcome 14 2 0 0)
+    ∷ (outcome_of (Err ReferenceMass) gives outcome 16 0 0 0)
+    ∷ (outcome_of (Err RotatingOrSpeed) gives outcome 17 0 0 0)
+    ∷ (outcome_of (Err LotSize) gives outcome 18 0 0 0)
+    ∷ (outcome_of (Err Efficiencies) gives outcome 19 0 0 0)
+    ∷ (outcome_of (Err (LotRecord 0)) gives outcome 21 0 0 0)
+    ∷ (outcome_of (Err (LotRecord 255)) gives outcome 21 255 0 0)
+    ∷ (chosen_of (Ok tt) false gives 1)
+    ∷ (chosen_of (Ok tt) true gives 2)
+    ∷ (chosen_of (Err Header) true gives 0)
     ∷ []
 
 -- 001, paragraph 8: densities in kg per cubic metre (8-2, 8-4, 8-6, 8-10), the triple (8-12, 8-13), k and the factors of HC, CO and CO2 (8-14, 8-15). D of

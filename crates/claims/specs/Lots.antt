@@ -1,17 +1,15 @@
 -- What is promised of the lot sheet (02, M-105 and M-108) beyond its definitions. The theorems are those of proofs/Lots.antt, for every list of records that is answered with a
 -- sheet; when it is refused, claims/specs/Table.antt says.
-use Rattle.std.specs.Prelude.{◌≡◌, true, cond, List, [], ◌∷◌, ℕ, ◌+◌, ◌<◌, length, get_or, ℤ, ◌≤ℤ◌, ◌<ℤ◌}
+use Rattle.std.specs.Prelude.{◌≡◌, true, cond, List, [], ◌∷◌, ℕ, ◌+◌, ◌<◌, length, get_or, ℤ, ◌≤ℤ◌, ◌<ℤ◌, None, Ok, Option, Some}
 use Rattle.arith.specs.Fraction.{Fraction, ◌+ᶠ◌, ◌/ᶠ◌, Between}
-use Rattle.reading.specs.Gas.{Gas}
+use Rattle.refusal.specs.declared.Gas.{Gas}
 use Rattle.bag.specs.declared.BagSheet.{BagSheet}
 use Rattle.sides.specs.Gases.{ends_at, nothing}
 use Rattle.emission.specs.declared.TestResult.{TestResult}
-use Rattle.emission.specs.declared.Answer.TheVariants.{Result}
+use Rattle.tally.specs.declared.Mean.{Mean}
 use Rattle.emission.specs.Test.{test_answer}
 use Rattle.record.specs.declared.Record.{Record}
 use Rattle.record.specs.Record.{each_number, has_gas, record_of}
-use Rattle.tally.specs.declared.Mean.{Mean}
-use Rattle.tally.specs.declared.Mean.TheVariants.{Nothing, Of}
 use Rattle.tally.specs.declared.GasSheet.{GasSheet}
 use Rattle.claims.specs.Exact.{TestPpm, TestMeasured, count, has, exact_weighted}
 
@@ -43,9 +41,9 @@ pub record Worst (gas : Gas) (rs : List Record) (index : ℕ) : Type 0 where
   pub earliest : (k : ℕ) → k < index → HasAt gas rs k → upper_at gas rs k <ℤ upper_at gas rs index
 
 -- where there is a mean, its index is that; and there is one exactly where a record has the gas
-abbrev pub WorstIn : Gas → List Record → Mean → Type 0
-WorstIn gas rs Nothing = having gas rs ≡ []
-WorstIn gas rs (Of ends index) = Worst gas rs index
+abbrev pub WorstIn : Gas → List Record → Option Mean → Type 0
+WorstIn gas rs None = having gas rs ≡ []
+WorstIn gas rs (Some mean) = Worst gas rs mean.worst
 
 -- ---- "the exact mean": of the records' exact figures, which are fractions
 abbrev pub exact_sum : List Fraction → Fraction
@@ -63,9 +61,9 @@ AllBetween gas (r ∷ rs) [] = ⊥
 AllBetween gas (r ∷ rs) (q ∷ qs) = Between (ends_at gas r.weighted) q × AllBetween gas rs qs
 
 -- "the exact mean lies between the ends", where there is a mean
-abbrev pub MeanHolds : Mean → Fraction → Type 0
-MeanHolds Nothing q = Unit {0}
-MeanHolds (Of ends index) q = Between ends q
+abbrev pub MeanHolds : Option Mean → Fraction → Type 0
+MeanHolds None q = Unit {0}
+MeanHolds (Some mean) q = Between mean.ends q
 
 -- ---- "for records of accepted tests": a bag sheet, the exact values of its messages, and the result that it is answered with
 pub record Test : Type 0 where
@@ -73,7 +71,7 @@ pub record Test : Type 0 where
   pub values : TestPpm
   pub result : TestResult
   pub measured : TestMeasured sheet values
-  pub accepted : test_answer sheet ≡ Result result
+  pub accepted : test_answer sheet ≡ Ok result
 
 abbrev pub records_of : List Test → List Record
 records_of [] = []

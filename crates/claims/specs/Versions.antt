@@ -1,6 +1,5 @@
 -- What is promised of the versions of a trace (02, M-109) beyond their definitions. The theorems are those of proofs/Versions.antt.
-use Rattle.std.specs.Prelude.{◌≡◌, List, ℕ, ◌<◌}
-use Rattle.refusal.specs.declared.Judged.TheVariants.{Accepted}
+use Rattle.std.specs.Prelude.{◌≡◌, List, ℕ, ◌<◌, Ok}
 use Rattle.house.specs.House.{version_of, count_of, speed_at, flags_at}
 use Rattle.trace.specs.Judging.{judge_trace}
 use Rattle.trace.specs.Versions.{in_version2}
@@ -26,7 +25,7 @@ pub record SameSheet (trace : List ℕ) : Type 0 where
 
 -- ---- "reading what it wrote gives the same seconds", and what it wrote is accepted
 pub record ReadBack (seconds : List ℕ) : Type 0 where
-  pub accepted : judge_trace (written seconds) ≡ Accepted
+  pub accepted : judge_trace (written seconds) ≡ Ok tt
   pub version : version_of (written seconds) ≡ 2
   pub count : count_of (written seconds) ≡ count_in seconds
   pub speeds : (k : ℕ) → k < count_in seconds → speed_at (written seconds) k ≡ speed_in seconds k

@@ -1,18 +1,16 @@
 -- The bag sheet and the result of a test as they cross the boundary: in numbers alone.
-use Rattle.std.specs.Prelude.{cond, eqb, pos}
+use Rattle.std.specs.Prelude.{cond, eqb, pos, Ok, Err, Result}
 use Rattle.std.specs.Float.Ieee.{of_bits}
 use Rattle.std.specs.Float.{binary32}
 use Rattle.arith.specs.Stages.{exactly}
-use Rattle.refusal.specs.declared.Judged.TheVariants.{Accepted}
-use Rattle.refusal.specs.declared.Judged.TheVariants as judged
+use Rattle.refusal.specs.declared.Refusal.{Refusal}
 use Rattle.reading.specs.declared.Message.{Message}
 use Rattle.reading.specs.declared.Message.TheVariants.{Ppm, Percent, OverRange, NotFitted}
 use Rattle.reading.specs.declared.Bag.{Bag}
 use Rattle.bag.specs.declared.Part.{Part}
 use Rattle.bag.specs.declared.BagSheet.{BagSheet}
-use Rattle.emission.specs.declared.Answer.{Answer}
-use Rattle.emission.specs.declared.Answer.TheVariants.{Result, Refused}
 use Rattle.sides.specs.Gases.{nothing}
+use Rattle.emission.specs.declared.TestResult.{TestResult}
 use Rattle.emission.specs.Test.{no_part}
 use Rattle.record.specs.Record.{record_of}
 use Rattle.outcome.specs.declared.Outcome.{Outcome}
@@ -77,14 +75,14 @@ with_nothing outcome =
     }
 
 -- weighted, verdicts and the fifth gas's flag are those of the result record, which a lot reads
-abbrev pub result_out : Answer → TestOutcome
-result_out (Result result) =
+abbrev pub result_out : Result TestResult Refusal → TestOutcome
+result_out (Ok result) =
     record {
-      outcome = outcome_of Accepted;
+      outcome = outcome_of (Ok tt);
       parts = result.parts;
       weighted = (record_of result).weighted;
       verdicts = (record_of result).verdicts;
       has_nmhc = (record_of result).has_nmhc;
       fuel = result.fuel;
     }
-result_out (Refused refusal) = with_nothing (outcome_of (judged.Refused refusal))
+result_out (Err refusal) = with_nothing (outcome_of (Err refusal))

@@ -3,16 +3,15 @@
 #![tactic(auto)]
 
 ghost use Rattle.std.specs.Prelude.{◌≡◌};
-ghost use Rattle.emission.specs.declared.Answer.TheVariants.{Result};
 ghost use Rattle.crossing.specs.Sheet.{message_of, bag_of, sheet_part_of, sheet_of, with_nothing, result_out};
 
 use arith::Ends;
 use bag::{BagSheet, Densities, Efficiencies, Fuel, Limits, Part, Triple};
-use emission::{Answer, Parts, TestResult};
+use emission::{Parts, TestResult};
 use outcome::Outcome;
 use reading::{Bag, Message};
-use record::VerdictNumbers;
-use refusal::Judged;
+use record::{Record, VerdictNumbers};
+use refusal::Refusal;
 use sides::Gases;
 
 // A message of the analyser: kind 0 ppm, 1 percent, 2 over range, 3 not fitted, and every other over range too. The float comes as its bits.
@@ -79,69 +78,71 @@ pub struct TestOutcome {
     pub fuel: Ends,
 }
 
-fn message_of(r: MessageNumbers) -> Message
-    ensures { result ≡ message_of r }
-{
-    let kind = r.kind;
-    match kind {
-        0 => Message::Ppm(reading::float_of(r.bits)),
-        1 => Message::Percent(reading::float_of(r.bits)),
-        3 => Message::NotFitted,
-        _ => Message::OverRange,
+impl From<MessageNumbers> for Message {
+    ghost from_gives = { λ r message. message ≡ message_of r };
+
+    fn from(r: MessageNumbers) -> Message {
+        match r.kind {
+            0 => Message::Ppm(reading::float_of(r.bits)),
+            1 => Message::Percent(reading::float_of(r.bits)),
+            3 => Message::NotFitted,
+            _ => Message::OverRange,
+        }
     }
 }
 
-#[tactic(auto, unfolding(crate::specs::Sheet::bag_of))]
-fn bag_of(r: BagNumbers) -> Bag
-    ensures { result ≡ bag_of r }
-{
-    Bag {
-        hc: message_of(r.hc),
-        co: message_of(r.co),
-        nox: message_of(r.nox),
-        co2: message_of(r.co2),
-        cutter: message_of(r.cutter),
+impl From<BagNumbers> for Bag {
+    ghost from_gives = { λ r bag. bag ≡ bag_of r };
+
+    #[tactic(auto, unfolding(crate::specs::Sheet::bag_of))]
+    fn from(r: BagNumbers) -> Bag {
+        Bag {
+            hc: Message::from(r.hc),
+            co: Message::from(r.co),
+            nox: Message::from(r.nox),
+            co2: Message::from(r.co2),
+            cutter: Message::from(r.cutter),
+        }
     }
 }
 
-#[tactic(auto, unfolding(crate::specs::Sheet::sheet_part_of))]
-fn sheet_part_of(p: SheetPart) -> Part
-    ensures { result ≡ sheet_part_of p }
-{
-    let density = p.density;
-    Part {
-        pump: p.pump,
-        revolutions: p.revolutions,
-        barometer: p.barometer,
-        depression: p.depression,
-        temperature: p.temperature,
-        humidity: p.humidity,
-        saturation: p.saturation,
-        distance: p.distance,
-        density,
-        bag: bag_of(p.bag),
-        air: bag_of(p.air),
+impl From<SheetPart> for Part {
+    ghost from_gives = { λ p part. part ≡ sheet_part_of p };
+
+    #[tactic(auto, unfolding(crate::specs::Sheet::sheet_part_of))]
+    fn from(p: SheetPart) -> Part {
+        Part {
+            pump: p.pump,
+            revolutions: p.revolutions,
+            barometer: p.barometer,
+            depression: p.depression,
+            temperature: p.temperature,
+            humidity: p.humidity,
+            saturation: p.saturation,
+            distance: p.distance,
+            density: p.density,
+            bag: Bag::from(p.bag),
+            air: Bag::from(p.air),
+        }
     }
 }
 
-#[tactic(auto, unfolding(crate::specs::Sheet::sheet_of))]
-pub fn sheet_of(s: Sheet) -> BagSheet
-    ensures { result ≡ sheet_of s }
-{
-    let triple = s.triple;
-    let fuel = s.fuel;
-    let limits = s.limits;
-    let efficiencies = s.efficiencies;
-    BagSheet {
-        class: s.class,
-        parts: s.parts,
-        triple,
-        fuel,
-        limits,
-        efficiencies,
-        first: sheet_part_of(s.first),
-        second: sheet_part_of(s.second),
-        third: sheet_part_of(s.third),
+impl From<Sheet> for BagSheet {
+    ghost from_gives = { λ s sheet. sheet ≡ sheet_of s };
+
+    #[tactic(auto, unfolding(crate::specs::Sheet::sheet_of))]
+    fn from(s: Sheet) -> BagSheet {
+        BagSheet {
+            class: s.class,
+            parts: s.parts,
+            triple: s.triple,
+            fuel: s.fuel,
+            limits: s.limits,
+            efficiencies: s.efficiencies,
+            first: Part::from(s.first),
+            second: Part::from(s.second),
+            third: Part::from(s.third),
+        }
     }
 }
 
@@ -170,28 +171,26 @@ fn with_nothing(outcome: Outcome) -> TestOutcome
 }
 
 fn with_result(res: TestResult) -> TestOutcome
-    ensures { result ≡ result_out (Result res) }
+    ensures { result ≡ result_out (Ok res) }
 {
-    let parts = res.parts;
-    let fuel = res.fuel;
-    let record = record::record_of(res);
-    let weighted = record.weighted;
-    let verdicts = record.verdicts;
+    let record = Record::from(res);
     TestOutcome {
-        outcome: outcome::outcome_of(Judged::Accepted),
-        parts,
-        weighted,
-        verdicts,
+        outcome: Outcome::from(Ok(())),
+        parts: res.parts,
+        weighted: record.weighted,
+        verdicts: record.verdicts,
         has_nmhc: record.has_nmhc,
-        fuel,
+        fuel: res.fuel,
     }
 }
 
-pub fn result_out(answer: Answer) -> TestOutcome
-    ensures { result ≡ result_out answer }
-{
-    match answer {
-        Answer::Result(result) => with_result(result),
-        Answer::Refused(refusal) => with_nothing(outcome::outcome_of(Judged::Refused(refusal))),
+impl From<Result<TestResult, Refusal>> for TestOutcome {
+    ghost from_gives = { λ answer out. out ≡ result_out answer };
+
+    fn from(answer: Result<TestResult, Refusal>) -> TestOutcome {
+        match answer {
+            Ok(result) => with_result(result),
+            Err(refusal) => with_nothing(Outcome::from(Err(refusal))),
+        }
     }
 }

@@ -6,7 +6,7 @@ ghost use Rattle.bag.specs.Sound.{RangedEfficiencies};
 ghost use Rattle.cutter.specs.NonMethane.{fitted_in, cutter_of, efficient, cutter_good, non_methane_of, nmhc_of};
 ghost use Rattle.cutter.specs.Ranges.{NonMethaneRanges, NmhcRanges};
 
-use arith::{Ends, scaled, whole};
+use arith::{Ends, scaled};
 use bag::{BagSheet, Efficiencies, Part};
 
 // The cutter of a test: whether it was fitted throughout, so that the test has the fifth gas; and what it takes away.
@@ -19,11 +19,7 @@ pub struct Cutter {
 fn fitted_in(p: Part) -> bool
     ensures { result ≡ fitted_in p }
 {
-    let bag = p.bag;
-    let air = p.air;
-    let in_bag = bag.cutter;
-    let in_air = air.cutter;
-    reading::is_fitted(in_bag) & reading::is_fitted(in_air)
+    reading::is_fitted(p.bag.cutter) & reading::is_fitted(p.air.cutter)
 }
 
 // Parts past the class's number are not read.
@@ -31,11 +27,10 @@ fn fitted_in(p: Part) -> bool
 pub fn cutter_of(s: BagSheet) -> Cutter
     ensures { result ≡ cutter_of s }
 {
-    let efficiencies = s.efficiencies;
     let both = fitted_in(s.first) & fitted_in(s.second);
     Cutter {
         fitted: both & ((s.class != 3) | fitted_in(s.third)),
-        efficiencies,
+        efficiencies: s.efficiencies,
     }
 }
 
@@ -51,8 +46,7 @@ pub fn is_good(c: Cutter) -> bool
     requires { RangedEfficiencies c.efficiencies }
     ensures { result ≡ cutter_good c }
 {
-    let fitted = c.fitted;
-    !fitted | is_efficient(c.efficiencies)
+    !c.fitted | is_efficient(c.efficiencies)
 }
 
 // In 1/256 ppm, like the two readings, and negative where the cutter's is too large for the other.
@@ -61,10 +55,10 @@ fn non_methane(e: Efficiencies, hc: Ends, behind: Ends) -> Ends
     requires { NonMethaneRanges e hc behind }
     ensures { result ≡ non_methane_of e hc behind }
 {
-    let without = scaled(whole(1000 - e.methane), hc);
+    let without = scaled(i64::from(1000 - e.methane), hc);
     arith::divided(
         arith::difference(without, scaled(1000, behind)),
-        whole(e.ethane - e.methane),
+        i64::from(e.ethane - e.methane),
     )
 }
 
@@ -74,9 +68,9 @@ pub fn nmhc(c: Cutter, hc: Ends, behind: Ends) -> Ends
     requires { NmhcRanges c hc behind }
     ensures { result ≡ nmhc_of c hc behind }
 {
-    let fitted = c.fitted;
-    if fitted {
-        return non_methane(c.efficiencies, hc, behind);
+    if c.fitted {
+        non_methane(c.efficiencies, hc, behind)
+    } else {
+        arith::exactly(0)
     }
-    arith::exactly(0)
 }

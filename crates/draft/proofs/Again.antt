@@ -7,7 +7,7 @@ use native.Mathlib.Decide.{dec_lt}
 use native.Mathlib.Omega.{arith}
 use lib.ListN.{length}
 use borrow.Author.Tests.{le-leb}
-use Rattle.refusal.specs.declared.Judged.TheVariants.{Accepted}
+use Rattle.std.specs.Prelude.{Ok}
 use Rattle.refusal.proofs.Ranges.{both}
 use Rattle.house.specs.House.{count_of, speed_at, zero_at, phase_of, missing, missing_at, draft_headed, draft_allows, draft_good}
 use Rattle.house.specs.Written.{head_of, seconds_to, file_of}
@@ -22,7 +22,7 @@ use Rattle.draft.proofs.Listing.{where-same, where-nowhere}
 use Rattle.draft.proofs.Bounds.{changed-bounded, bounded-changed}
 use Rattle.draft.proofs.Mending.{mended-speed, mended-at, mended-zero, mended-count, allowed, not-both, else-open, unaltered, filled, filled-few}
 
-module _ (draft : List ℕ) (read : judge_draft false draft ≡ Accepted) where
+module _ (draft : List ℕ) (read : judge_draft false draft ≡ Ok tt) where
   abbrev n : ℕ
   n = count_of draft
 

@@ -4,11 +4,10 @@ use mathlib.Core.Bool.{true, false}
 use mathlib.Core.List.{List, [], ◌∷◌, ◌++◌}
 use Prim.Native.Nat.{ℕ}
 use lib.ListN.{set, take}
-use Rattle.refusal.specs.declared.Judged.TheVariants as judged
+use Rattle.std.specs.Prelude.{Ok, Err}
 use Rattle.refusal.specs.declared.Refusal.TheVariants.{Header, Count, Length, Second, Room}
 use Rattle.house.specs.Written.{seconds_to}
 use Rattle.trace.specs.Judging.{judge_trace}
-use Rattle.draft.specs.declared.MendAnswer.TheVariants.{Mended, Refused}
 use Rattle.draft.specs.Draft.{judge_draft, gap_from, mended, turned, seconds_where, list_of, judge_mend, mend_answer, judge_turn}
 
 -- a gap at the start; a stop; one with a mark between stops at 0.0 km/h; a stop; one where an acceleration follows; one at the end
@@ -33,14 +32,14 @@ unfolding seconds_where gap_from
 unequal = (refl, refl, refl)
 
 -- exactly so much room, and one less of each
-rooms : (mend_answer draft 44 2 3 ≡ Mended 2 3) × (mend_answer draft 43 2 3 ≡ Refused Room) × (mend_answer draft 44 1 3 ≡ Refused Room) × (mend_answer draft 44 2 2 ≡ Refused Room)
+rooms : (mend_answer draft 44 2 3 ≡ Ok (record { changed = 2; left = 3 })) × (mend_answer draft 43 2 3 ≡ Err Room) × (mend_answer draft 44 1 3 ≡ Err Room) × (mend_answer draft 44 2 2 ≡ Err Room)
 unfolding judge_mend judge_draft seconds_where gap_from
 rooms = (refl, refl, refl, refl)
 
 -- 1 to 4 by version 3, before 8: the version, the count, the length; a phase beside bit 4, bit 5, the speed, the fourth byte
-refusals : (mend_answer (set draft 4 1) 0 0 0 ≡ Refused Header) × (mend_answer (set draft 6 0) 0 0 0 ≡ Refused Count) × (mend_answer (take 43 draft) 0 0 0 ≡ Refused Length)
-    × (mend_answer (set draft 10 17) 0 0 0 ≡ Refused (Second 1)) × (mend_answer (set draft 10 32) 0 0 0 ≡ Refused (Second 1))
-    × (mend_answer (set draft 41 8) 0 0 0 ≡ Refused (Second 9)) × (mend_answer (set draft 15 1) 0 0 0 ≡ Refused (Second 2))
+refusals : (mend_answer (set draft 4 1) 0 0 0 ≡ Err Header) × (mend_answer (set draft 6 0) 0 0 0 ≡ Err Count) × (mend_answer (take 43 draft) 0 0 0 ≡ Err Length)
+    × (mend_answer (set draft 10 17) 0 0 0 ≡ Err (Second 1)) × (mend_answer (set draft 10 32) 0 0 0 ≡ Err (Second 1))
+    × (mend_answer (set draft 41 8) 0 0 0 ≡ Err (Second 9)) × (mend_answer (set draft 15 1) 0 0 0 ≡ Err (Second 2))
 unfolding judge_mend judge_draft
 refusals = (refl, refl, refl, refl, refl, refl, refl)
 
@@ -48,11 +47,11 @@ refusals = (refl, refl, refl, refl, refl, refl, refl)
 abbrev whole : List ℕ
 whole = 87 ∷ 84 ∷ 82 ∷ 0 ∷ 3 ∷ 0 ∷ 2 ∷ 0 ∷ 44 ∷ 1 ∷ 13 ∷ 0 ∷ 0 ∷ 0 ∷ 4 ∷ 0 ∷ []
 
-turns : (judge_turn draft 0 ≡ judged.Refused (Second 1)) × (judge_turn (set (set draft 10 0) 15 1) 0 ≡ judged.Refused (Second 2))
-    × (judge_turn whole 15 ≡ judged.Refused Room) × (judge_turn whole 16 ≡ judged.Accepted)
+turns : (judge_turn draft 0 ≡ Err (Second 1)) × (judge_turn (set (set draft 10 0) 15 1) 0 ≡ Err (Second 2))
+    × (judge_turn whole 15 ≡ Err Room) × (judge_turn whole 16 ≡ Ok tt)
 unfolding judge_turn judge_draft
 turns = (refl, refl, refl, refl)
 
-driven : (turned whole ≡ set whole 4 1) × (judge_trace (turned whole) ≡ judged.Accepted) × (judge_trace whole ≡ judged.Refused Header)
+driven : (turned whole ≡ set whole 4 1) × (judge_trace (turned whole) ≡ Ok tt) × (judge_trace whole ≡ Err Header)
 unfolding seconds_to judge_trace
 driven = (refl, refl, refl)

@@ -5,7 +5,7 @@ use mathlib.Core.List.{List}
 use Prim.Native.Nat.{ℕ, ◌+◌, ◌≤◌, ◌<◌}
 use native.Mathlib.Numerals.{add-one}
 use native.Mathlib.Omega.{arith}
-use Rattle.refusal.specs.declared.Judged.TheVariants.{Accepted}
+use Rattle.std.specs.Prelude.{Ok}
 use Rattle.refusal.proofs.Ranges.{both}
 use Rattle.house.specs.House.{count_of, speed_at, flags_at, zero_at, phase_of, no_shift, no_first, missing, missing_at, draft_allows}
 use Rattle.house.proofs.Versions.{good-parts}
@@ -35,7 +35,7 @@ module _ (draft : List ℕ) where
   pub mended-count : count_of (mended draft) ≡ n
   mended-count = file-count 3 (speed_at draft) (mended_flags draft) n
 
-module _ (draft : List ℕ) (read : judge_draft false draft ≡ Accepted) where
+module _ (draft : List ℕ) (read : judge_draft false draft ≡ Ok tt) where
   -- what 4 has left of a second
   pub allowed : (k : ℕ) → k < count_of draft → (speed_at draft k ≤ 2000) × (draft_allows (flags_at draft k) ≡ true) × (zero_at draft k ≡ 0)
   allowed k l = good-parts (draft_allows (flags_at draft k)) (speed_at draft k) (zero_at draft k) (each-good false draft read k l).0

@@ -6,7 +6,7 @@ use Prim.Native.Nat.{ℕ, suc, ◌<◌}
 use native.Mathlib.Omega.{arith}
 use lib.ListN.{length}
 use borrow.Author.Tests.{le-leb, not-true}
-use Rattle.refusal.specs.declared.Judged.TheVariants.{Accepted}
+use Rattle.std.specs.Prelude.{Ok}
 use Rattle.house.specs.House.{headed, allows, count_of, speed_at, flags_at, zero_at, missing_at, draft_allows, second_good}
 use Rattle.house.proofs.Versions.{or-false, good-parts, parts-good}
 use Rattle.house.proofs.Drafts.{known-flags}
@@ -19,7 +19,7 @@ use Rattle.draft.proofs.Listing.{held_on, on_none}
 use Rattle.draft.proofs.Mending.{mended-count}
 use Rattle.draft.proofs.Again.{again, good-again, missing-open}
 
-module _ (draft : List ℕ) (read : judge_draft true draft ≡ Accepted) where
+module _ (draft : List ℕ) (read : judge_draft true draft ≡ Ok tt) where
   abbrev n : ℕ
   n = count_of draft
 
@@ -49,7 +49,7 @@ module _ (draft : List ℕ) (read : judge_draft true draft ≡ Accepted) where
       }
 
 -- ---- mended with nothing left open
-pub can-be-turned : (draft : List ℕ) → judge_draft false draft ≡ Accepted → list_of draft false ≡ [] → judge_draft true (mended draft) ≡ Accepted
+pub can-be-turned : (draft : List ℕ) → judge_draft false draft ≡ Ok tt → list_of draft false ≡ [] → judge_draft true (mended draft) ≡ Ok tt
 can-be-turned draft read none =
     let count = mended-count draft in
     let file = past false (mended draft) (again draft read).read in

@@ -1,16 +1,14 @@
 -- Drafts of traces (02, M-112), "in which a second's phase may be missing, and nothing else may": judged, mended and turned. Seconds count from 0 here, and from 1 in the
 -- lists.
-use Rattle.std.specs.Prelude.{Bool, true, false, cond, not, ◌&&◌, List, [], ◌∷◌, ◌++◌, ℕ, zero, suc, ◌+◌, ◌-◌, ◌*◌, eqb, leb, ltb, length, drop}
+use Rattle.std.specs.Prelude.{Bool, true, false, cond, not, ◌&&◌, List, [], ◌∷◌, ◌++◌, ℕ, zero, suc, ◌+◌, ◌-◌, ◌*◌, eqb, leb, ltb, length, drop, Result, Ok, Err}
+use Rattle.refusal.specs.declared.Refusal.{Refusal}
 use Rattle.refusal.specs.declared.Refusal.TheVariants.{Second, Room}
-use Rattle.refusal.specs.declared.Judged.{Judged}
-use Rattle.refusal.specs.declared.Judged.TheVariants as judged
-use Rattle.refusal.specs.Judging.{checked, and_then, if_accepted}
+use Rattle.refusal.specs.Judging.{Judged, checked, and_then, if_accepted}
+use Rattle.draft.specs.declared.Mended.{Mended}
 use Rattle.walk.specs.Walk.{scan}
 use Rattle.house.specs.House.{count_of, speed_at, flags_at, phase_of, draft_headed, missing_at, draft_good, with_phase}
 use Rattle.house.specs.Written.{file_of}
 use Rattle.trace.specs.Judging.{judge_file}
-use Rattle.draft.specs.declared.MendAnswer.{MendAnswer}
-use Rattle.draft.specs.declared.MendAnswer.TheVariants.{Mended, Refused}
 
 -- ---- "Refusals: in the tool 1 to 4 read by version 3; in the turning also 4 with the first open second"
 abbrev pub good_for : Bool → List ℕ → ℕ → Bool
@@ -18,7 +16,7 @@ good_for turning draft k = draft_good draft k && not (turning && missing_at draf
 
 -- the first of the n seconds from k on that is not. Its place counts from 1
 abbrev pub judge_seconds : Bool → List ℕ → ℕ → ℕ → Judged
-judge_seconds turning draft = scan (good_for turning draft) (λ k. judged.Refused (Second (k + 1))) (λ k. judged.Accepted)
+judge_seconds turning draft = scan (good_for turning draft) (λ k. Err (Second (k + 1))) (λ k. Ok tt)
 
 unfoldable pub judge_draft : Bool → List ℕ → Judged
 judge_draft turning draft = judge_file (draft_headed draft) draft (judge_seconds turning draft 0 (count_of draft))
@@ -84,14 +82,14 @@ fits draft room changed_room open_room =
     leb (8 + 4 * count_of draft) room && (leb (length (list_of draft true)) changed_room && leb (length (list_of draft false)) open_room)
 
 unfoldable pub judge_mend : List ℕ → ℕ → ℕ → ℕ → Judged
-judge_mend draft room changed_room open_room = and_then (judge_draft false draft) (checked (fits draft room changed_room open_room) Room judged.Accepted)
+judge_mend draft room changed_room open_room = and_then (judge_draft false draft) (checked (fits draft room changed_room open_room) Room (Ok tt))
 
 -- "the count and list of seconds changed and the seconds left open"
-abbrev pub counted : Judged → List ℕ → MendAnswer
-counted judged.Accepted draft = Mended (length (list_of draft true)) (length (list_of draft false))
-counted (judged.Refused refusal) draft = Refused refusal
+abbrev pub counted : Judged → List ℕ → Result Mended Refusal
+counted (Ok _) draft = Ok (record { changed = length (list_of draft true); left = length (list_of draft false) })
+counted (Err refusal) draft = Err refusal
 
-abbrev pub mend_answer : List ℕ → ℕ → ℕ → ℕ → MendAnswer
+abbrev pub mend_answer : List ℕ → ℕ → ℕ → ℕ → Result Mended Refusal
 mend_answer draft room changed_room open_room = counted (judge_mend draft room changed_room open_room) draft
 
 -- an output at the end: what is new at its front, and the rest as it was; on a refusal all of it
@@ -110,7 +108,7 @@ left_after draft buffer changed left = at_front (judge_mend draft (length buffer
 
 -- ---- turning
 unfoldable pub judge_turn : List ℕ → ℕ → Judged
-judge_turn draft room = and_then (judge_draft true draft) (checked (leb (8 + 4 * count_of draft) room) Room judged.Accepted)
+judge_turn draft room = and_then (judge_draft true draft) (checked (leb (8 + 4 * count_of draft) room) Room (Ok tt))
 
 abbrev pub turned_after : List ℕ → List ℕ → List ℕ
 turned_after draft buffer = at_front (judge_turn draft (length buffer)) (turned draft) buffer

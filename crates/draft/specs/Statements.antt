@@ -1,7 +1,6 @@
 -- What is promised of mending and turning beyond their definitions (02, M-112), over every draft that is read. The theorems are those of proofs/Mending.antt, Again.antt and
 -- Turning.antt.
-use Rattle.std.specs.Prelude.{◌≡◌, Bool, true, false, List, [], ℕ, ◌+◌, ◌≤◌, ◌<◌, length, get_or}
-use Rattle.refusal.specs.declared.Judged.TheVariants.{Accepted}
+use Rattle.std.specs.Prelude.{◌≡◌, Bool, true, false, List, [], ℕ, ◌+◌, ◌≤◌, ◌<◌, length, get_or, Ok}
 use Rattle.house.specs.House.{version_of, count_of, speed_at, flags_at, zero_at, phase_of, no_shift, no_first, missing_at}
 use Rattle.trace.specs.Judging.{judge_trace}
 use Rattle.draft.specs.Draft.{judge_draft, mended, turned, list_of}
@@ -59,14 +58,14 @@ pub record Mending (draft : List ℕ) : Type 0 where
 
 -- ---- "running it on its own result changes nothing"
 pub record Again (draft : List ℕ) : Type 0 where
-  pub read : judge_draft false (mended draft) ≡ Accepted
+  pub read : judge_draft false (mended draft) ≡ Ok tt
   pub same : mended (mended draft) ≡ mended draft
   pub changed : list_of (mended draft) true ≡ []
   pub left_open : list_of (mended draft) false ≡ list_of draft false
 
 -- ---- "A draft with nothing open can be turned into version 1, the same seconds and marks": a trace that the core's judge takes
 pub record Turning (draft : List ℕ) : Type 0 where
-  pub taken : judge_trace (turned draft) ≡ Accepted
+  pub taken : judge_trace (turned draft) ≡ Ok tt
   pub version : version_of (turned draft) ≡ 1
   pub count : count_of (turned draft) ≡ count_of draft
   pub speeds : (k : ℕ) → k < count_of draft → speed_at (turned draft) k ≡ speed_at draft k

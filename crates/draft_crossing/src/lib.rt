@@ -4,9 +4,9 @@
 ghost use Rattle.std.specs.Prelude.{◌≡◌};
 ghost use Rattle.draft_crossing.specs.Mend.{mend_out};
 
-use draft::MendAnswer;
+use draft::Mended;
 use outcome::Outcome;
-use refusal::Judged;
+use refusal::Refusal;
 
 #[repr(C)]
 #[derive(Clone, Copy)]
@@ -16,19 +16,21 @@ pub struct MendOutcome {
     pub left: u32,
 }
 
-pub fn mend_out(answer: MendAnswer) -> MendOutcome
-    ensures { result ≡ mend_out answer }
-{
-    match answer {
-        MendAnswer::Mended { changed, left } => MendOutcome {
-            outcome: outcome::outcome_of(Judged::Accepted),
-            changed,
-            left,
-        },
-        MendAnswer::Refused(refusal) => MendOutcome {
-            outcome: outcome::outcome_of(Judged::Refused(refusal)),
-            changed: 0,
-            left: 0,
-        },
+impl From<Result<Mended, Refusal>> for MendOutcome {
+    ghost from_gives = { λ answer out. out ≡ mend_out answer };
+
+    fn from(answer: Result<Mended, Refusal>) -> MendOutcome {
+        match answer {
+            Ok(mended) => MendOutcome {
+                outcome: Outcome::from(Ok(())),
+                changed: mended.changed,
+                left: mended.left,
+            },
+            Err(refusal) => MendOutcome {
+                outcome: Outcome::from(Err(refusal)),
+                changed: 0,
+                left: 0,
+            },
+        }
     }
 }

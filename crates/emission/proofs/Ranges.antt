@@ -7,12 +7,12 @@ use lib.Dec.{eqb}
 use borrow.Author.Tests.{eqb-true}
 use lib.IntN.{pos}
 use Rattle.arith.proofs.Size.{exactly-size, wider-size}
-use Rattle.reading.specs.Gas.{Gas}
-use Rattle.reading.proofs.Gas.{by-gas}
+use Rattle.refusal.specs.declared.Gas.{Gas}
 use Rattle.bag.specs.declared.BagSheet.{BagSheet}
 use Rattle.bag.specs.declared.Part.{Part}
 use Rattle.bag.specs.declared.Triple.{Triple}
 use Rattle.bag.specs.Sound.{Tested}
+use Rattle.bag.proofs.Gas.{by-gas}
 use Rattle.weigh.specs.Test.{weights_of}
 use Rattle.stage.specs.Ranges.{largest_rate}
 use Rattle.stage.proofs.Sizes.{rate-size}

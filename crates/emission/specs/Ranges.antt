@@ -1,7 +1,7 @@
 -- What the stages of the test ask, from what an accepted sheet and its readings tell.
 use Rattle.std.specs.Prelude.{◌*◌}
 use Rattle.arith.specs.Fitting.{Sized}
-use Rattle.reading.specs.Gas.{Gas}
+use Rattle.refusal.specs.declared.Gas.{Gas}
 use Rattle.bag.specs.declared.BagSheet.{BagSheet}
 use Rattle.bag.specs.Sound.{Tested}
 use Rattle.weigh.specs.declared.Weights.{Weights}

@@ -13,8 +13,8 @@ use arith::Ends;
 use bag::{BagSheet, Fuel, Limits};
 use cutter::Cutter;
 use part::PartResult;
-use refusal::{Judged, Refusal};
-use sides::{Gases, Read, Sides, TestSides};
+use refusal::Refusal;
+use sides::{Gases, Sides, TestSides};
 use weigh::{Verdict, Weights};
 
 #[repr(C)]
@@ -25,13 +25,14 @@ pub struct Parts {
     pub third: PartResult,
 }
 
+// A gas that the test does not have has no verdict: only the fifth may be such.
 #[derive(Clone, Copy)]
 pub struct Verdicts {
     pub hc: Verdict,
     pub co: Verdict,
     pub nox: Verdict,
     pub co2: Verdict,
-    pub nmhc: Verdict,
+    pub nmhc: Option<Verdict>,
 }
 
 // Weighted results in micrograms/km, the fuel in microlitres per 100 km. A third part that the class does not have is all 0, and so is the fifth gas where the
@@ -43,12 +44,6 @@ pub struct TestResult {
     pub weighted: Gases,
     pub verdicts: Verdicts,
     pub fuel: Ends,
-}
-
-#[derive(Clone, Copy)]
-pub enum Answer {
-    Result(TestResult),
-    Refused(Refusal),
 }
 
 pub fn no_part() -> PartResult
@@ -66,11 +61,11 @@ fn third_part(s: BagSheet, c: Cutter, sides: Sides) -> PartResult
     requires { s.class ≡ 3 → PartRanges s.triple c s.third sides }
     ensures { result ≡ third_part s c sides }
 {
-    let class = s.class;
-    if class == 3 {
-        return part::part_of(s.triple, c, s.third, sides);
+    if s.class == 3 {
+        part::part_of(s.triple, c, s.third, sides)
+    } else {
+        no_part()
     }
-    no_part()
 }
 
 #[tactic(auto, unfolding(crate::specs::Test::parts_in))]
@@ -101,14 +96,15 @@ fn weighted_gases(w: Weights, first: Gases, second: Gases, third: Gases) -> Gase
 
 // The fifth gas's verdict, where the test has it.
 #[tactic(auto, unfolding(crate::specs::Test::nmhc_verdict))]
-fn nmhc_verdict(has_nmhc: bool, rate: Ends, limit: u64) -> Verdict
+fn nmhc_verdict(has_nmhc: bool, rate: Ends, limit: u64) -> Option<Verdict>
     requires { limit ≤ most_limit }
     ensures { result ≡ nmhc_verdict has_nmhc rate limit }
 {
     if has_nmhc {
-        return weigh::verdict_of(rate, limit);
+        Some(weigh::verdict_of(rate, limit))
+    } else {
+        None
     }
-    Verdict::NoVerdict
 }
 
 #[tactic(auto, unfolding(crate::specs::Test::each_verdict, crate::specs::Test::verdicts_of))]
@@ -159,20 +155,12 @@ fn result_of(s: BagSheet, has_nmhc: bool, parts: Parts) -> TestResult
 
 // The full result of a test, or its first refusal: 10 and 11, then 12, then 13, 14 and 19.
 #[tactic(auto, unfolding(crate::specs::Test::read_answer, crate::specs::Test::test_answer))]
-pub fn test(s: BagSheet) -> Answer
+pub fn test(s: BagSheet) -> Result<TestResult, Refusal>
     ensures { result ≡ test_answer s }
 {
-    if let Judged::Refused(refusal) = bag::judge(s) {
-        return Answer::Refused(refusal);
-    }
-    let readings = match sides::readings_in(s) {
-        Read::Units(readings) => readings,
-        Read::Refused(refusal) => return Answer::Refused(refusal),
-    };
+    bag::judge(s)?;
+    let readings = sides::readings_in(s)?;
     let c = cutter::cutter_of(s);
-    if let Judged::Refused(refusal) = late::judge(s, c, readings) {
-        return Answer::Refused(refusal);
-    }
-    let fitted = c.fitted;
-    Answer::Result(result_of(s, fitted, parts_in(s, c, readings)))
+    late::judge(s, c, readings)?;
+    Ok(result_of(s, c.fitted, parts_in(s, c, readings)))
 }

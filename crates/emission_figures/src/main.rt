@@ -5,17 +5,18 @@
 mod output;
 mod sheet;
 
+use cases::Numbers;
 use std::io;
 use std::io::Read;
 
 fn lines(rt: &impl Print, text: &[u8]) -> io::Result<()> {
-    let mut lasting = [0; 802];
-    let mut own = [0; 802];
+    let mut lasting = Numbers::new();
+    let mut own = Numbers::new();
     let mut at = 0;
     while at < text.len() {
         let line = cases::read_line(rt, text, at, &mut lasting, &mut own)?;
-        if at < line.said {
-            output::show(rt, own)?;
+        if line.said.is_some() {
+            output::show(rt, &own)?;
         }
         at = line.end;
     }

@@ -1,152 +1,107 @@
 // What is printed of a case.
 use super::sheet;
 use arith::Ends;
-use bag::BagSheet;
-use emission::{Answer, TestResult, Verdicts};
+use cases::Numbers;
+use emission::{TestResult, Verdicts};
 use part::PartResult;
-use print::{filled, text};
-use reading::{Message, Worth};
+use print::ends;
+use reading::Message;
 use refusal::Refusal;
 use sides::Gases;
 use std::io;
 use weigh::Verdict;
 
+fn gas(rt: &impl Print, name: &str, e: Ends) -> io::Result<()> {
+    print!(rt; " {name}")?;
+    ends(rt, e)
+}
+
 // The fifth gas stands last in a line, where the test has it.
-fn nmhc(rt: &impl Print, has_nmhc: bool, e: Ends) -> io::Result<()> {
+fn gases(rt: &impl Print, g: Gases, has_nmhc: bool) -> io::Result<()> {
+    gas(rt, "HC", g.hc)?;
+    gas(rt, "CO", g.co)?;
+    gas(rt, "NOx", g.nox)?;
+    gas(rt, "CO2", g.co2)?;
     if has_nmhc {
-        filled(rt, b" NMHC # #", &[e.lower, e.upper])?;
+        gas(rt, "NMHC", g.nmhc)?;
     }
     Ok(())
 }
 
-fn gases(rt: &impl Print, form: &[u8], has_nmhc: bool, g: Gases) -> io::Result<()> {
-    filled(
-        rt,
-        form,
-        &[
-            g.hc.lower,
-            g.hc.upper,
-            g.co.lower,
-            g.co.upper,
-            g.nox.lower,
-            g.nox.upper,
-            g.co2.lower,
-            g.co2.upper,
-        ],
-    )?;
-    nmhc(rt, has_nmhc, g.nmhc)
-}
-
-fn volume(rt: &impl Print, part: i64, e: Ends) -> io::Result<()> {
-    filled(rt, b"\npart # volume # #", &[part, e.lower, e.upper])
-}
-
-fn part_result(rt: &impl Print, part: i64, has_nmhc: bool, p: PartResult) -> io::Result<()> {
-    volume(rt, part, p.volume)?;
-    gases(
-        rt,
-        b"\n mass HC # # CO # # NOx # # CO2 # #",
-        has_nmhc,
-        p.mass,
-    )?;
-    gases(
-        rt,
-        b"\n rate HC # # CO # # NOx # # CO2 # #",
-        has_nmhc,
-        p.rate,
-    )
+fn part_result(rt: &impl Print, part: u32, p: PartResult, has_nmhc: bool) -> io::Result<()> {
+    print!(rt; "\npart {part} volume")?;
+    ends(rt, p.volume)?;
+    print!(rt; "\n mass")?;
+    gases(rt, p.mass, has_nmhc)?;
+    print!(rt; "\n rate")?;
+    gases(rt, p.rate, has_nmhc)
 }
 
 fn verdict(rt: &impl Print, v: Verdict) -> io::Result<()> {
     match v {
-        Verdict::Pass => text(rt, b" pass"),
-        Verdict::Fail => text(rt, b" fail"),
-        Verdict::Undecided => text(rt, b" undecided"),
-        Verdict::NoVerdict => Ok(()),
+        Verdict::Pass => print!(rt; " pass"),
+        Verdict::Fail => print!(rt; " fail"),
+        Verdict::Undecided => print!(rt; " undecided"),
     }
 }
 
 fn verdicts(rt: &impl Print, v: Verdicts) -> io::Result<()> {
-    text(rt, b"\nverdicts")?;
-    let hc = v.hc;
-    let co = v.co;
-    let nox = v.nox;
-    let co2 = v.co2;
-    let nmhc = v.nmhc;
-    verdict(rt, hc)?;
-    verdict(rt, co)?;
-    verdict(rt, nox)?;
-    verdict(rt, co2)?;
-    verdict(rt, nmhc)?;
-    text(rt, b"\nfuel")
-}
-
-fn ends(rt: &impl Print, e: Ends) -> io::Result<()> {
-    filled(rt, b" # #\n", &[e.lower, e.upper])
+    print!(rt; "\nverdicts")?;
+    for gas in [v.hc, v.co, v.nox, v.co2] {
+        verdict(rt, gas)?;
+    }
+    if let Some(nmhc) = v.nmhc {
+        verdict(rt, nmhc)?;
+    }
+    Ok(())
 }
 
 fn result(rt: &impl Print, r: TestResult) -> io::Result<()> {
-    let parts = r.parts;
-    let has_nmhc = r.has_nmhc;
-    part_result(rt, 1, has_nmhc, parts.first)?;
-    part_result(rt, 2, has_nmhc, parts.second)?;
-    part_result(rt, 3, has_nmhc, parts.third)?;
-    gases(
-        rt,
-        b"\nweighted HC # # CO # # NOx # # CO2 # #",
-        has_nmhc,
-        r.weighted,
-    )?;
+    part_result(rt, 1, r.parts.first, r.has_nmhc)?;
+    part_result(rt, 2, r.parts.second, r.has_nmhc)?;
+    part_result(rt, 3, r.parts.third, r.has_nmhc)?;
+    print!(rt; "\nweighted")?;
+    gases(rt, r.weighted, r.has_nmhc)?;
     verdicts(rt, r.verdicts)?;
-    ends(rt, r.fuel)
+    print!(rt; "\nfuel")?;
+    ends(rt, r.fuel)?;
+    println!(rt)
 }
 
-fn taken(rt: &impl Print) -> io::Result<()> {
-    text(rt, b" taken\n")
-}
-
-fn refused(rt: &impl Print, r: Refusal) -> io::Result<()> {
-    let place = refusal::place_of(r);
-    let number = refusal::number_of(r);
-    filled(
-        rt,
-        b" refusal # at # # #\n",
-        &[
-            number as i64,
-            place.at as i64,
-            place.within as i64,
-            place.side as i64,
-        ],
+fn refused(rt: &impl Print, refusal: Refusal) -> io::Result<()> {
+    let number = refusal.number();
+    let place = refusal.place();
+    println!(rt;
+        " refusal {number} at {} {} {}",
+        place.at, place.within, place.side
     )
 }
 
 // The result where the sheet is taken, or only that it is.
-fn answer(rt: &impl Print, s: BagSheet, whole: bool) -> io::Result<()> {
-    let answer = emission::test(s);
-    match answer {
-        Answer::Result(r) => { if whole { result(rt, r) } else { taken(rt) } }
-        Answer::Refused(r) => refused(rt, r),
+fn answer(rt: &impl Print, n: &Numbers, whole: bool) -> io::Result<()> {
+    match emission::test(sheet::sheet_in(n)) {
+        Ok(r) if whole => result(rt, r),
+        Ok(_) => println!(rt; " taken"),
+        Err(refusal) => refused(rt, refusal),
     }
 }
 
-fn unusable(rt: &impl Print) -> io::Result<()> {
-    text(rt, b" unusable\n")
-}
-
 fn units(rt: &impl Print, message: Message) -> io::Result<()> {
-    let reading = reading::convert(message);
-    match reading {
-        Worth::Units(e) => ends(rt, e),
-        Worth::Unusable => unusable(rt),
+    match reading::convert(message) {
+        Some(e) => {
+            ends(rt, e)?;
+            println!(rt)
+        }
+        None => println!(rt; " unusable"),
     }
 }
 
 // Place 3 says what is asked.
-pub fn show(rt: &impl Print, n: [u64; 802]) -> io::Result<()> {
-    let asked = cases::number_at(n, 0, 3);
+pub fn show(rt: &impl Print, n: &Numbers) -> io::Result<()> {
+    let asked = n.digits_at(0, 3);
     if asked == 2 {
         units(rt, sheet::message_at(n, 1, 2, 1))
     } else {
-        answer(rt, sheet::sheet_in(n), asked == 1)
+        answer(rt, n, asked == 1)
     }
 }

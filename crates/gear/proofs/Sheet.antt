@@ -6,11 +6,10 @@ use native.Mathlib.Omega.{arith}
 use lib.ListN.{length, take, drop, take-append-drop}
 use lib.Dec.{leb}
 use borrow.Author.Tests.{leb-true}
-use Rattle.refusal.specs.declared.Judged.{Judged}
-use Rattle.refusal.specs.declared.Judged.TheVariants.{Accepted, Refused}
+use Rattle.std.specs.Prelude.{Ok, Err}
+use Rattle.refusal.specs.Judging.{Judged, and_then, if_accepted}
 use Rattle.refusal.specs.declared.Refusal.{Refusal}
 use Rattle.refusal.specs.declared.Refusal.TheVariants.{Room}
-use Rattle.refusal.specs.Judging.{and_then, if_accepted}
 use Rattle.refusal.proofs.Ranges.{both}
 use Rattle.refusal.proofs.Judging.{checked-holds, then-holds}
 use Rattle.house.specs.House.{count_of}
@@ -30,7 +29,7 @@ pub record Sound (trace : List ℕ) (v : VehicleSheet) (room start : ℕ) : Type
   pub from : start ≤ room
   pub fits : 2 * count_of trace ≤ room - start
 
-pub sheet-sound : (trace : List ℕ) (v : VehicleSheet) (room start : ℕ) → judge_sheet trace v room start ≡ Accepted → Sound trace v room start
+pub sheet-sound : (trace : List ℕ) (v : VehicleSheet) (room start : ℕ) → judge_sheet trace v room start ≡ Ok tt → Sound trace v room start
 unfolding judge_sheet
 sheet-sound trace v room start e =
     let last = judge_room (count_of trace) room start in
@@ -38,7 +37,7 @@ sheet-sound trace v room start e =
     let t = then-holds (judge_trace trace) (and_then (judge_vehicle v) (and_then marks last)) e in
     let w = then-holds (judge_vehicle v) (and_then marks last) t.1 in
     let m = then-holds marks last w.1 in
-    let here = both (leb start room) (leb (2 * count_of trace) (room - start)) (checked-holds _ Room Accepted m.1).0 in
+    let here = both (leb start room) (leb (2 * count_of trace) (room - start)) (checked-holds _ Room (Ok tt) m.1).0 in
     record {
       of_trace = trace-sound trace t.0;
       of_vehicle = vehicle-sound v w.0;
@@ -60,10 +59,10 @@ module _ (trace : List ℕ) (v : VehicleSheet) (buffer : List ℕ) (start : ℕ)
 
   -- the part comes back as it went, or with the row at its front
   back_by : (j : Judged) (new : List ℕ) → take start buffer ++ if_accepted j new (drop start buffer) ≡ if_accepted j (take start buffer ++ new) buffer
-  back_by Accepted new = refl
-  back_by (Refused refusal) new = take-append-drop start buffer
+  back_by (Ok _) new = refl
+  back_by (Err refusal) new = take-append-drop start buffer
 
-  pub buffer-refused : {refusal : Refusal} → gear_answer trace v (length buffer) start ≡ Refused refusal → buffer ≡ gear_buffer trace v buffer start
+  pub buffer-refused : {refusal : Refusal} → gear_answer trace v (length buffer) start ≡ Err refusal → buffer ≡ gear_buffer trace v buffer start
   unfolding gear_buffer
   buffer-refused e = sym (ap (λ (j : Judged). if_accepted j (take start buffer ++ with_row v trace (count_of trace) (drop start buffer)) buffer) e)
 

@@ -2,96 +2,95 @@
 #![tactic(auto)]
 
 ghost use Rattle.std.specs.Prelude.{◌≡◌, ◌++◌, ◌*◌, ◌≤◌, length, get_or, drop};
-ghost use Rattle.row.specs.Row.{HaveSeconds};
-ghost use Rattle.vehicle.specs.Sheet.{Sound};
 ghost use Rattle.shift.specs.Speeds.{shift_of};
 ghost use Rattle.refusal.specs.Judging.{if_accepted};
 ghost use Rattle.own.specs.Own.{judge_close, Ready};
-ghost use Rattle.house.specs.House.{Lasts};
-ghost use Rattle.gear.specs.Sheet.{row_from, marks_by, judge_sheet, gear_answer, with_row, gear_buffer};
+ghost use Rattle.gear.specs.Sheet.{row_from, marks_by, judge_sheet, Taken, gear_answer, with_row, gear_buffer};
 
-use refusal::{Judged, Refusal};
-use vehicle::VehicleSheet;
+use house::HouseFile;
+use refusal::Refusal;
+use vehicle::{Vehicle, VehicleSheet};
 
 // The finished row, over all of a slice.
-fn finish(v: VehicleSheet, trace: &[u8], own: &[u8], row: &mut [u8], n: usize)
-    requires { (HaveSeconds trace.now row.old n) × (length row.old ≡ 2 * n) × (n ≤ length own.now) }
-    ensures { row.new ≡ row_from v (λ k. get_or own.now k 0) trace.now n }
+fn finish(v: VehicleSheet, trace: HouseFile, own: &[u8], row: &mut [u8])
+    requires { (length row.old ≡ 2 * trace.seconds) × (trace.seconds ≤ length own.now) }
+    ensures { row.new ≡ row_from v (λ k. get_or own.now k 0) trace.entry.bytes.now trace.entry.seconds }
 {
-    phase::first_row(trace, own, row, n);
-    runs::correct(trace, row, n);
-    clutch::set_clutch(v, trace, row, n);
+    phase::first_row(trace, own, row);
+    runs::correct(trace, row);
+    clutch::set_clutch(v, trace, row);
 }
 
 // The row at the front of a longer part, whose other bytes stay.
-fn into_part(v: VehicleSheet, trace: &[u8], own: &[u8], part: &mut [u8], n: usize)
-    requires { (HaveSeconds trace.now part.old n) × (n ≤ length own.now) }
-    ensures { part.new ≡ row_from v (λ k. get_or own.now k 0) trace.now n ++ drop (2 * n) part.old }
+fn into_part(v: VehicleSheet, trace: HouseFile, own: &[u8], part: &mut [u8])
+    requires { (2 * trace.seconds ≤ length part.old) × (trace.seconds ≤ length own.now) }
+    ensures { part.new ≡ row_from v (λ k. get_or own.now k 0) trace.entry.bytes.now trace.entry.seconds ++ drop (2 * trace.entry.seconds) part.old }
 {
-    let m = 2 * n;
-    finish(v, trace, own, &mut part[..m], n);
+    let m = 2 * trace.seconds;
+    finish(v, trace, own, &mut part[..m]);
 }
 
 // Refusal 9, or the row at the front of the part.
-fn fill(v: VehicleSheet, trace: &[u8], part: &mut [u8], n: usize) -> Judged
-    requires { (Sound v) × (Ready (shift_of v) trace.now n) × (2 * n ≤ length part.old) }
-    ensures { (result ≡ judge_close (shift_of v) trace.now 0 n)
-        × (part.new ≡ if_accepted result (with_row v trace.now n part.old) part.old) }
+fn fill(v: Vehicle, trace: HouseFile, part: &mut [u8]) -> Result<(), Refusal>
+    requires { (Ready (shift_of v.sheet) trace.bytes.now trace.seconds) × (2 * trace.seconds ≤ length part.old) }
+    ensures { (result ≡ judge_close (shift_of v.sheet) trace.entry.bytes.now 0 trace.entry.seconds)
+        × (part.new ≡ if_accepted result (with_row v.sheet trace.entry.bytes.now trace.entry.seconds part.old) part.old) }
 {
     let mut own = [0u8; 2000];
-    let close = own::own_gears(v, trace, &mut own, n);
-    let Judged::Accepted = close else {
-        return close;
-    };
-    into_part(v, trace, &own, part, n);
-    Judged::Accepted
+    own::own_gears(v, trace, &mut own)?;
+    into_part(v.sheet, trace, &own, part);
+    Ok(())
 }
 
 // Refusal 20.
-fn judge_marks(v: VehicleSheet, trace: &[u8], n: usize) -> Judged
-    requires { (Lasts trace.now n) × (n ≤ 2000) }
-    ensures { result ≡ marks_by v trace.now n }
+fn judge_marks(v: VehicleSheet, trace: HouseFile) -> Result<(), Refusal>
+    requires { trace.seconds ≤ 2000 }
+    ensures { result ≡ marks_by v trace.entry.bytes.now trace.entry.seconds }
 {
     if v.rules == 2 {
-        return trace::judge_marks(trace, n);
+        return trace::judge_marks(trace);
     }
-    Judged::Accepted
+    Ok(())
 }
 
-// Refusals 1 to 7, 20 and 8.
+// What the gears are worked out from.
+#[derive(Clone, Copy)]
+struct Inputs<'a> {
+    trace: HouseFile<'a>,
+    v: Vehicle,
+}
+
+// Refusals 1 to 7, 20 and 8, or the trace's seconds and the vehicle.
 #[tactic(auto, unfolding(crate::specs::Sheet::judge_sheet))]
-fn judge_sheet(trace: &[u8], v: VehicleSheet, room: usize, start: usize) -> Judged
-    ensures { result ≡ judge_sheet trace.now v room start }
+fn read_sheet<'a>(
+    trace: &'a [u8],
+    v: VehicleSheet,
+    room: usize,
+    start: usize,
+) -> Result<Inputs<'a>, Refusal>
+    ensures { Taken trace.entry v (judge_sheet trace.now v room start) result }
 {
-    let first = trace::judge(trace);
-    let Judged::Accepted = first else {
-        return first;
-    };
-    let second = vehicle::judge(v);
-    let Judged::Accepted = second else {
-        return second;
-    };
-    let n = house::count_of(trace);
-    let third = judge_marks(v, trace, n);
-    let Judged::Accepted = third else {
-        return third;
-    };
+    let trace = trace::read(trace)?;
+    let v = vehicle::read(v)?;
+    judge_marks(v.sheet, trace)?;
     if room < start {
-        return Judged::Refused(Refusal::Room);
+        return Err(Refusal::Room);
     }
-    refusal::check(2 * n <= room - start, Refusal::Room, Judged::Accepted)
+    refusal::check(2 * trace.seconds <= room - start, Refusal::Room)?;
+    Ok(Inputs { trace, v })
 }
 
 // The gears and the clutch of a trace's seconds, two bytes a second, into the buffer from the start on; or the first refusal, 1 to 7, 20, 8
 // or 9, and the buffer as it was.
-pub fn write_gears(trace: &[u8], v: VehicleSheet, buffer: &mut [u8], start: usize) -> Judged
+pub fn write_gears(
+    trace: &[u8],
+    v: VehicleSheet,
+    buffer: &mut [u8],
+    start: usize,
+) -> Result<(), Refusal>
     ensures { (result ≡ gear_answer trace.now v (length buffer.old) start)
         × (buffer.new ≡ gear_buffer trace.now v buffer.old start) }
 {
-    let judged = judge_sheet(trace, v, buffer.len(), start);
-    let Judged::Accepted = judged else {
-        return judged;
-    };
-    let n = house::count_of(trace);
-    fill(v, trace, &mut buffer[start..], n)
+    let inputs = read_sheet(trace, v, buffer.len(), start)?;
+    fill(inputs.v, inputs.trace, &mut buffer[start..])
 }

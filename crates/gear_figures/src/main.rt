@@ -10,6 +10,7 @@ mod sheet;
 mod shifts;
 mod writing;
 
+use cases::Numbers;
 use std::io;
 use std::io::Read;
 use std::rt::Files;
@@ -17,12 +18,11 @@ use std::rt::Files;
 // Place 20 says what is asked.
 fn show(
     rt: &(impl Files + Print),
-    n: [u64; 802],
+    n: &Numbers,
     said: &[u8],
     rows: &mut [u8; 3610],
 ) -> io::Result<()> {
-    let asked = cases::number_at(n, 0, 20);
-    match asked {
+    match n.digits_at(0, 20) {
         0 => seconds::seconds(rt, n),
         1 => shifts::shift_speed(rt, n),
         2 => shifts::clutch_speed(rt, n),
@@ -37,15 +37,14 @@ fn show(
 }
 
 fn lines(rt: &(impl Files + Print), text: &[u8]) -> io::Result<()> {
-    let mut lasting = [0; 802];
-    let mut own = [0; 802];
+    let mut lasting = Numbers::new();
+    let mut own = Numbers::new();
     let mut rows = [165; 3610];
     let mut at = 0;
     while at < text.len() {
         let line = cases::read_line(rt, text, at, &mut lasting, &mut own)?;
-        let said = line.said;
-        if at < said {
-            show(rt, own, &text[at..said], &mut rows)?;
+        if let Some(said) = line.said {
+            show(rt, &own, &text[at..said], &mut rows)?;
         }
         at = line.end;
     }

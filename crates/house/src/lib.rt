@@ -7,19 +7,12 @@ ghost use Rattle.house.specs.House.{speed_at, flags_at, stop, stop_at, accelerat
 ghost use Rattle.house.specs.House.{phase_of, draft_headed, missing, draft_allows, draft_good, with_phase};
 ghost use Rattle.house.specs.Written.{head_of, with_second};
 
-// That a byte is below 256 is said here once, for all sums of bytes.
-fn wide(byte: u8) -> usize
-    ensures { (result ≡ byte) × (byte < 256) }
-{
-    byte as usize
-}
-
 // 16 bits, little-endian.
 fn sixteen(bytes: &[u8], at: usize) -> usize
     requires { at + 1 < length bytes.now }
     ensures { (result ≡ sixteen_at bytes.now at) × (result < 65536) }
 {
-    wide(bytes[at]) + 256 * wide(bytes[at + 1])
+    usize::from(u16::from_le_bytes([bytes[at], bytes[at + 1]]))
 }
 
 // The count of seconds, of a trace that has a head.
@@ -30,22 +23,70 @@ pub fn count_of(trace: &[u8]) -> usize
     sixteen(trace, 6)
 }
 
-// The speed of second k, in 0.1 km/h.
-pub fn speed_at(trace: &[u8], k: usize) -> usize
-    requires { Lasts trace.now (k + 1) }
-    ensures { (result ≡ speed_at trace.now k) × (result < 65536) }
-{
-    sixteen(trace, 4 * k + 8)
+// A lent house file, and the count of seconds that its bytes last for.
+#[derive(Clone, Copy)]
+pub struct HouseFile<'a> {
+    pub bytes: &'a [u8],
+    pub seconds: usize,
+    ghost lasts: { Lasts bytes.now seconds },
 }
 
-// The flags of second k, and what they say.
-pub fn flags_at(trace: &[u8], k: usize) -> u8
-    requires { Lasts trace.now (k + 1) }
-    ensures { result ≡ flags_at trace.now k }
-{
-    trace[4 * k + 10]
+impl<'a> HouseFile<'a> {
+    // The speed of second k, in 0.1 km/h.
+    pub fn speed(self, k: usize) -> usize
+        requires { k < self.seconds }
+        ensures { (result ≡ speed_at self.entry.bytes.now k) × (result < 65536) }
+    {
+        sixteen(self.bytes, 4 * k + 8)
+    }
+
+    // The flags of second k, and what they say.
+    pub fn flags(self, k: usize) -> u8
+        requires { k < self.seconds }
+        ensures { result ≡ flags_at self.entry.bytes.now k }
+    {
+        self.bytes[4 * k + 10]
+    }
+
+    pub fn is_stop(self, k: usize) -> bool
+        requires { k < self.seconds }
+        ensures { result ≡ stop_at self.entry.bytes.now k }
+    {
+        is_stop(self.flags(k))
+    }
+
+    // Whether second k has a mark for which refusal 20 is given.
+    pub fn is_marked(self, k: usize) -> bool
+        requires { k < self.seconds }
+        ensures { result ≡ marked_at self.entry.bytes.now k }
+    {
+        marked_in(version_of(self.bytes), self.flags(k))
+    }
+
+    // What refusal 4 asks of second k.
+    pub fn is_good(self, k: usize) -> bool
+        requires { k < self.seconds }
+        ensures { result ≡ second_good self.entry.bytes.now k }
+    {
+        good_in(
+            version_of(self.bytes),
+            self.speed(k),
+            self.flags(k),
+            self.bytes[4 * k + 11],
+        )
+    }
+
+    // The same of second k of a draft.
+    pub fn is_draft_good(self, k: usize) -> bool
+        requires { k < self.seconds }
+        ensures { result ≡ draft_good self.entry.bytes.now k }
+    {
+        let allowed = draft_allows(self.flags(k));
+        good_by(allowed, self.speed(k), self.bytes[4 * k + 11])
+    }
 }
 
+// The phase stays a number: it is compared and put back as the two bits that it is, and an enum would be made of it and taken apart again between the two.
 pub fn phase_of(flags: u8) -> u8
     ensures { (result ≡ phase_of flags) × (result < 4) }
 {
@@ -56,13 +97,6 @@ pub fn is_stop(flags: u8) -> bool
     ensures { result ≡ stop flags }
 {
     flags % 4 == 0
-}
-
-pub fn stop_at(trace: &[u8], k: usize) -> bool
-    requires { Lasts trace.now (k + 1) }
-    ensures { result ≡ stop_at trace.now k }
-{
-    is_stop(flags_at(trace, k))
 }
 
 pub fn is_acceleration(flags: u8) -> bool
@@ -129,9 +163,10 @@ fn is_headed(file: &[u8], known: bool) -> bool
     requires { 8 ≤ length file.now }
     ensures { result ≡ headed_by known file.now }
 {
-    (file[0] == b'W') & (file[1] == b'T') & (file[2] == b'R') & (file[3] == 0) & known
+    file.starts_with(b"WTR\0") & known
 }
 
+// That there is room for a head stays a clause: what stands in it is defined over the whole file.
 pub fn has_head(trace: &[u8]) -> bool
     requires { 8 ≤ length trace.now }
     ensures { result ≡ headed trace.now }
@@ -156,14 +191,6 @@ pub fn marked_in(version: usize, flags: u8) -> bool
     (version == 1) & marked
 }
 
-// The same of second k.
-pub fn marked_at(trace: &[u8], k: usize) -> bool
-    requires { Lasts trace.now (k + 1) }
-    ensures { result ≡ marked_at trace.now k }
-{
-    marked_in(version_of(trace), flags_at(trace, k))
-}
-
 // What refusal 4 asks of a second whose flags are allowed or not.
 fn good_by(allowed: bool, speed: usize, fourth: u8) -> bool
     ensures { result ≡ good_by allowed speed fourth }
@@ -176,19 +203,6 @@ pub fn good_in(version: usize, speed: usize, flags: u8, fourth: u8) -> bool
     ensures { result ≡ good_in version speed flags fourth }
 {
     good_by(is_allowed(version, flags), speed, fourth)
-}
-
-// The same of second k.
-pub fn is_good(trace: &[u8], k: usize) -> bool
-    requires { Lasts trace.now (k + 1) }
-    ensures { result ≡ second_good trace.now k }
-{
-    good_in(
-        version_of(trace),
-        speed_at(trace, k),
-        flags_at(trace, k),
-        trace[4 * k + 11],
-    )
 }
 
 // Whether the phase is missing, in a draft.
@@ -204,15 +218,6 @@ fn draft_allows(flags: u8) -> bool
     (flags <= 15) | ((flags <= 31) & (flags % 4 == 0))
 }
 
-// What refusal 4 asks of second k of a draft.
-pub fn is_draft_good(draft: &[u8], k: usize) -> bool
-    requires { Lasts draft.now (k + 1) }
-    ensures { result ≡ draft_good draft.now k }
-{
-    let allowed = draft_allows(flags_at(draft, k));
-    good_by(allowed, speed_at(draft, k), draft[4 * k + 11])
-}
-
 // The flags of a second that takes a phase, which is missing there.
 pub fn with_phase(flags: u8, phase: u8) -> u8
     requires { phase < 4 }
@@ -226,14 +231,9 @@ pub fn put_head(file: &mut [u8], version: u16, n: usize)
     requires { (8 ≤ length file.old) × (n < 65536) }
     ensures { file.new ≡ head_of version n ++ drop 8 file.old }
 {
-    file[0] = b'W';
-    file[1] = b'T';
-    file[2] = b'R';
-    file[3] = 0;
-    file[4] = (version % 256) as u8;
-    file[5] = (version / 256) as u8;
-    file[6] = (n % 256) as u8;
-    file[7] = (n / 256) as u8;
+    file[..4].copy_from_slice(b"WTR\0");
+    file[4..6].copy_from_slice(&version.to_le_bytes());
+    file[6..8].copy_from_slice(&(n as u16).to_le_bytes());
 }
 
 // Second k of such a file.
@@ -242,8 +242,9 @@ pub fn put_second(file: &mut [u8], k: usize, speed: u16, flags: u8)
     ensures { file.new ≡ with_second file.old k speed flags }
 {
     let at = 4 * k + 8;
-    file[at] = (speed % 256) as u8;
-    file[at + 1] = (speed / 256) as u8;
+    let speed = speed.to_le_bytes();
+    file[at] = speed[0];
+    file[at + 1] = speed[1];
     file[at + 2] = flags;
     file[at + 3] = 0;
 }

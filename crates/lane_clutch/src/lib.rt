@@ -4,28 +4,23 @@
 
 ghost use Rattle.std.specs.Prelude.{◌≡◌, true, cond, ◌+◌, ◌*◌, ◌<◌, ◌≤◌, eqb, length};
 ghost use Rattle.house.specs.House.{Lasts};
-ghost use Rattle.vehicle.specs.Sheet.{Sound};
 ghost use Rattle.lanes.specs.Lanes.{lane_at, line_by};
 ghost use Rattle.lane_clutch.specs.Clutch.{limit_of, drives_lane, clutched, clutch_line, Tops, Clutches};
 
-use vehicle::VehicleSheet;
+use house::HouseFile;
+use vehicle::Vehicle;
 
 // What the tables have of a vehicle for a gear; 0 for a gear that it has not, which no row has.
-pub fn limit(v: VehicleSheet, gear: usize) -> u16
-    requires { (Sound v) × (1 ≤ gear) × (gear ≤ 8) }
-    ensures { result ≡ limit_of v gear }
+pub fn limit(v: Vehicle, gear: usize) -> u16
+    requires { (1 ≤ gear) × (gear ≤ 8) }
+    ensures { result ≡ limit_of v.sheet gear }
 {
+    let v = v.sheet;
     let ndv = v.ndv;
     if (v.gears as usize) < gear {
         return 0;
     }
     tenths::not_below(vehicle::lowest_engine_speed(v), ndv[gear - 1])
-}
-
-fn one_if(holds: bool) -> u8
-    ensures { (result ≡ cond holds 1 0) × (result ≤ 1) }
-{
-    if holds { 1 } else { 0 }
 }
 
 // How many gears are that of the lane and turn its engine fast enough: 1, or none. Always eight, and no exit: so the compiler works on all lanes at once.
@@ -34,11 +29,9 @@ fn drives(tables: &[u16], speed: u16, gear: u8, j: usize) -> u8
     ensures { result ≡ drives_lane tables.now speed gear j 8 }
 {
     let mut count = 0;
-    let mut i = 0;
-    while i < 8 {
+    for i in 0..8 {
         let own = gear == (i + 1) as u8;
-        count += one_if(own & (tables[16 * (i + 9) + j] <= speed));
-        i += 1;
+        count += u8::from(own & (tables[16 * (i + 9) + j] <= speed));
     }
     count
 }
@@ -53,10 +46,8 @@ fn put_out(lanes: &mut [u8], k: usize)
     requires { 16 * k + 16 ≤ length lanes.old }
     ensures { lanes.new ≡ line_by (λ m j. clutched true (lane_at m j k)) k lanes.old 16 }
 {
-    let mut j = 0;
-    while j < 16 {
+    for j in 0..16 {
         lanes[16 * k + j] = clutched(true, lanes[16 * k + j]);
-        j += 1;
     }
 }
 
@@ -64,19 +55,11 @@ fn put_clutch(tables: &[u16], speed: u16, lanes: &mut [u8], k: usize)
     requires { (272 ≤ length tables.now) × (16 * k + 16 ≤ length lanes.old) }
     ensures { lanes.new ≡ line_by (λ m j. clutched (eqb (drives_lane tables.now speed (lane_at m j k) j 8) 0) (lane_at m j k)) k lanes.old 16 }
 {
-    let mut j = 0;
-    while j < 16 {
+    for j in 0..16 {
         let gear = lanes[16 * k + j];
         let driven = drives(tables, speed, gear, j);
         lanes[16 * k + j] = clutched(driven == 0, gear);
-        j += 1;
     }
-}
-
-fn higher(a: u16, b: u16) -> u16
-    ensures { (a ≤ result) × (b ≤ result) }
-{
-    if a < b { b } else { a }
 }
 
 // The highest of the tables: from there on every engine turns fast enough.
@@ -85,10 +68,8 @@ fn highest(tables: &[u16]) -> u16
     ensures { Tops tables.now 272 result }
 {
     let mut most = 0;
-    let mut i = 144;
-    while i < 272 {
-        most = higher(most, tables[i]);
-        i += 1;
+    for i in 144..272 {
+        most = most.max(tables[i]);
     }
     most
 }
@@ -108,15 +89,13 @@ fn clutch_second(tables: &[u16], top: u16, flags: u8, speed: u16, lanes: &mut [u
 }
 
 // The clutch of each second of all rows, by the gears that they have.
-pub fn set_clutch(trace: &[u8], tables: &[u16], lanes: &mut [u8], n: usize)
-    requires { (Lasts trace.now n) × (272 ≤ length tables.now) × (16 * n ≤ length lanes.old) }
-    ensures { Clutches trace.now tables.now lanes.old lanes.new n }
+pub fn set_clutch(trace: HouseFile, tables: &[u16], lanes: &mut [u8])
+    requires { (272 ≤ length tables.now) × (16 * trace.seconds ≤ length lanes.old) }
+    ensures { Clutches trace.entry.bytes.now tables.now lanes.old lanes.new trace.entry.seconds }
 {
     let top = highest(tables);
-    let mut k = 0;
-    while k < n {
-        let speed = house::speed_at(trace, k) as u16;
-        clutch_second(tables, top, house::flags_at(trace, k), speed, lanes, k);
-        k += 1;
+    for k in 0..trace.seconds {
+        let speed = trace.speed(k) as u16;
+        clutch_second(tables, top, trace.flags(k), speed, lanes, k);
     }
 }

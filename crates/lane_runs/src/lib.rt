@@ -7,6 +7,8 @@ ghost use Rattle.house.specs.House.{Lasts};
 ghost use Rattle.lanes.specs.Lanes.{lane_at, line_by};
 ghost use Rattle.lane_runs.specs.Runs.{reach_by, left_after, count_after, NoneReached, taken_at, TakenTo, RunsJudged, Judges, Smooths};
 
+use house::HouseFile;
+
 fn reach(count: u8, left: u8, gear: u8) -> u8
     ensures { result ≡ reach_by count left gear }
 {
@@ -43,23 +45,20 @@ fn count_after(count: u8, before: u8, gear: u8) -> u8
     }
 }
 
-fn put_reach(lanes: &[u8], k: usize, runs: &mut [u8])
-    requires { (16 * k + 16 ≤ length lanes.now) × (48 ≤ length runs.old) }
+fn put_reach(lanes: &[u8], k: usize, runs: &mut [u8; 48])
+    requires { 16 * k + 16 ≤ length lanes.now }
     ensures { runs.new ≡ line_by (λ m j. reach_by (lane_at m j 0) (lane_at m j 1) (lane_at lanes.now j k)) 2 runs.old 16 }
 {
-    let mut j = 0;
-    while j < 16 {
+    for j in 0..16 {
         runs[16 * 2 + j] = reach(runs[16 * 0 + j], runs[16 * 1 + j], lanes[16 * k + j]);
-        j += 1;
     }
 }
 
-fn put_left(marked: bool, lanes: &[u8], p: usize, k: usize, runs: &mut [u8])
-    requires { (16 * p + 16 ≤ length lanes.now) × (16 * k + 16 ≤ length lanes.now) × (48 ≤ length runs.old) }
+fn put_left(marked: bool, lanes: &[u8], p: usize, k: usize, runs: &mut [u8; 48])
+    requires { (16 * p + 16 ≤ length lanes.now) × (16 * k + 16 ≤ length lanes.now) }
     ensures { runs.new ≡ line_by (λ m j. left_after marked (lane_at m j 0) (lane_at m j 1) (lane_at lanes.now j p) (lane_at lanes.now j k)) 1 runs.old 16 }
 {
-    let mut j = 0;
-    while j < 16 {
+    for j in 0..16 {
         runs[16 * 1 + j] = left_after(
             marked,
             runs[16 * 0 + j],
@@ -67,43 +66,34 @@ fn put_left(marked: bool, lanes: &[u8], p: usize, k: usize, runs: &mut [u8])
             lanes[16 * p + j],
             lanes[16 * k + j],
         );
-        j += 1;
     }
 }
 
-fn put_count(lanes: &[u8], p: usize, k: usize, runs: &mut [u8])
-    requires { (16 * p + 16 ≤ length lanes.now) × (16 * k + 16 ≤ length lanes.now) × (48 ≤ length runs.old) }
+fn put_count(lanes: &[u8], p: usize, k: usize, runs: &mut [u8; 48])
+    requires { (16 * p + 16 ≤ length lanes.now) × (16 * k + 16 ≤ length lanes.now) }
     ensures { runs.new ≡ line_by (λ m j. count_after (lane_at m j 0) (lane_at lanes.now j p) (lane_at lanes.now j k)) 0 runs.old 16 }
 {
-    let mut j = 0;
-    while j < 16 {
+    for j in 0..16 {
         runs[16 * 0 + j] = count_after(runs[16 * 0 + j], lanes[16 * p + j], lanes[16 * k + j]);
-        j += 1;
     }
 }
 
 // Every run stays.
-fn put_none(runs: &mut [u8])
-    requires { 48 ≤ length runs.old }
+fn put_none(runs: &mut [u8; 48])
     ensures { runs.new ≡ line_by (λ m j. 0) 1 runs.old 16 }
 {
-    let mut j = 0;
-    while j < 16 {
+    for j in 0..16 {
         runs[16 * 1 + j] = 0;
-        j += 1;
     }
 }
 
 // Whether any lane reaches a second.
-fn any_reached(runs: &[u8]) -> bool
-    requires { 48 ≤ length runs.now }
+fn any_reached(runs: &[u8; 48]) -> bool
     ensures { result ≡ false → NoneReached runs.now }
 {
     let mut any = false;
-    let mut j = 0;
-    while j < 16 {
+    for j in 0..16 {
         any = any | (0 < runs[16 * 2 + j]);
-        j += 1;
     }
     any
 }
@@ -115,20 +105,18 @@ fn kept(takes: bool, new: u8, old: u8) -> u8
 }
 
 // Second i, which is d before second k.
-fn put_taken(d: u8, runs: &[u8], lanes: &mut [u8], i: usize, k: usize)
-    requires { (48 ≤ length runs.now) × (16 * i + 16 ≤ length lanes.old) × (16 * k + 16 ≤ length lanes.old) }
+fn put_taken(d: u8, runs: &[u8; 48], lanes: &mut [u8], i: usize, k: usize)
+    requires { (16 * i + 16 ≤ length lanes.old) × (16 * k + 16 ≤ length lanes.old) }
     ensures { lanes.new ≡ line_by (λ m j. cond (leb d (lane_at runs.now j 2)) (lane_at m j k) (lane_at m j i)) i lanes.old 16 }
 {
-    let mut j = 0;
-    while j < 16 {
+    for j in 0..16 {
         lanes[16 * i + j] = kept(d <= runs[16 * 2 + j], lanes[16 * k + j], lanes[16 * i + j]);
-        j += 1;
     }
 }
 
 // The second d + 1 before second k, if there is one.
-fn take_one(d: usize, runs: &[u8], lanes: &mut [u8], k: usize)
-    requires { (d < 4) × (48 ≤ length runs.now) × (16 * k + 16 ≤ length lanes.old) }
+fn take_one(d: usize, runs: &[u8; 48], lanes: &mut [u8], k: usize)
+    requires { (d < 4) × (16 * k + 16 ≤ length lanes.old) }
     ensures { lanes.new ≡ taken_at d runs.now k lanes.old }
 {
     if d < k {
@@ -137,20 +125,18 @@ fn take_one(d: usize, runs: &[u8], lanes: &mut [u8], k: usize)
 }
 
 // The last four seconds, as far as each lane reaches.
-fn take_back(runs: &[u8], lanes: &mut [u8], k: usize)
-    requires { (48 ≤ length runs.now) × (16 * k + 16 ≤ length lanes.old) }
+fn take_back(runs: &[u8; 48], lanes: &mut [u8], k: usize)
+    requires { 16 * k + 16 ≤ length lanes.old }
     ensures { TakenTo 4 runs.now k lanes.old lanes.new }
 {
-    let mut d = 0;
-    while d < 4 {
+    for d in 0..4 {
         take_one(d, runs, lanes, k);
-        d += 1;
     }
 }
 
 // Hardly ever any lane reaches one.
-fn take_reached(runs: &[u8], lanes: &mut [u8], k: usize)
-    requires { (48 ≤ length runs.now) × (16 * k + 16 ≤ length lanes.old) }
+fn take_reached(runs: &[u8; 48], lanes: &mut [u8], k: usize)
+    requires { 16 * k + 16 ≤ length lanes.old }
     ensures { TakenTo 4 runs.now k lanes.old lanes.new }
 {
     if any_reached(runs) {
@@ -159,8 +145,8 @@ fn take_reached(runs: &[u8], lanes: &mut [u8], k: usize)
 }
 
 // Second k, outside stops and not behind one: p is the second before it.
-fn judge_runs(marked: bool, lanes: &mut [u8], p: usize, k: usize, runs: &mut [u8])
-    requires { (16 * p + 16 ≤ length lanes.old) × (16 * k + 16 ≤ length lanes.old) × (48 ≤ length runs.old) }
+fn judge_runs(marked: bool, lanes: &mut [u8], p: usize, k: usize, runs: &mut [u8; 48])
+    requires { (16 * p + 16 ≤ length lanes.old) × (16 * k + 16 ≤ length lanes.old) }
     ensures { RunsJudged marked p k lanes.old lanes.new runs.old runs.new }
 {
     put_reach(lanes, k, runs);
@@ -170,8 +156,8 @@ fn judge_runs(marked: bool, lanes: &mut [u8], p: usize, k: usize, runs: &mut [u8
 }
 
 // Second k, with the flags, behind one with the flags `former`.
-fn judge(former: u8, flags: u8, lanes: &mut [u8], p: usize, k: usize, runs: &mut [u8])
-    requires { (16 * p + 16 ≤ length lanes.old) × (16 * k + 16 ≤ length lanes.old) × (48 ≤ length runs.old) }
+fn judge(former: u8, flags: u8, lanes: &mut [u8], p: usize, k: usize, runs: &mut [u8; 48])
+    requires { (16 * p + 16 ≤ length lanes.old) × (16 * k + 16 ≤ length lanes.old) }
     ensures { Judges former flags p k lanes.old lanes.new runs.old runs.new }
 {
     if house::is_stop(flags) | house::is_stop(former) {
@@ -182,17 +168,15 @@ fn judge(former: u8, flags: u8, lanes: &mut [u8], p: usize, k: usize, runs: &mut
 }
 
 // Correction 6 of all rows.
-pub fn smooth(trace: &[u8], lanes: &mut [u8], n: usize)
-    requires { (Lasts trace.now n) × (16 * n ≤ length lanes.old) }
-    ensures { Smooths trace.now lanes.old lanes.new n }
+pub fn smooth(trace: HouseFile, lanes: &mut [u8])
+    requires { 16 * trace.seconds ≤ length lanes.old }
+    ensures { Smooths trace.entry.bytes.now lanes.old lanes.new trace.entry.seconds }
 {
     let mut runs = [0; 48];
     let mut former = 0;
-    let mut k = 0;
-    while k < n {
-        let flags = house::flags_at(trace, k);
+    for k in 0..trace.seconds {
+        let flags = trace.flags(k);
         judge(former, flags, lanes, row::prior(k), k, &mut runs);
         former = flags;
-        k += 1;
     }
 }

@@ -3,7 +3,7 @@ use mathlib.Core.Path.{◌≡◌, sym}
 use mathlib.Core.Bool.{Bool, true, false, not, ◌||◌, true≢false}
 use mathlib.Core.List.{[], ◌∷◌, ◌++◌}
 use Prim.Native.Nat.{ℕ}
-use Rattle.refusal.specs.declared.Judged.TheVariants.{Accepted}
+use Rattle.std.specs.Prelude.{Ok}
 use Rattle.refusal.proofs.Judging.{judged-holds}
 use Rattle.bag.specs.declared.BagSheet.{BagSheet}
 use Rattle.bag.specs.declared.Part.{Part}
@@ -13,8 +13,6 @@ use Rattle.bag.proofs.Sound.{apart, third-holds}
 use Rattle.cutter.specs.NonMethane.{cutter_of, cutter_good}
 use Rattle.sides.specs.declared.Sides.{Sides}
 use Rattle.sides.specs.declared.TestSides.{TestSides}
-use Rattle.sides.specs.declared.Read.TheVariants.{Units}
-use Rattle.sides.specs.declared.PartRead.TheVariants as part_read
 use Rattle.sides.specs.ReadIn.{read_part, read_in}
 use Rattle.sides.proofs.Sizes.{bag_sizes, air_sizes}
 use Rattle.sides.proofs.Taken.{read-parts, third-read, third-bag-sizes}
@@ -28,7 +26,7 @@ good-fitted : (fitted good : Bool) → (not fitted || good) ≡ true → fitted 
 good-fitted true good e f = e
 good-fitted false good e f = absurd (true≢false (sym f))
 
-module _ {s : BagSheet} {r : TestSides} (h : Sound s) (e : read_in s ≡ Units r) where
+module _ {s : BagSheet} {r : TestSides} (h : Sound s) (e : read_in s ≡ Ok r) where
   pub late-ranges : LateRanges s (cutter_of s) r
   unfolding cutter_of
   late-ranges =
@@ -44,7 +42,7 @@ module _ {s : BagSheet} {r : TestSides} (h : Sound s) (e : read_in s ≡ Units r
         efficiencies = h.tested.efficiencies;
       }
 
-  part-ranges : (part : ℕ) (p : Part) {sides : Sides} → Ranged p → read_part part p ≡ part_read.Units sides →
+  part-ranges : (part : ℕ) (p : Part) {sides : Sides} → Ranged p → read_part part p ≡ Ok sides →
       diluted s.triple sides.bag ≡ true → dry_enough p ≡ true → cutter_good (cutter_of s) ≡ true → PartRanges s.triple (cutter_of s) p sides
   unfolding cutter_of
   part-ranges part p ranged read rich humid good =
@@ -60,7 +58,7 @@ module _ {s : BagSheet} {r : TestSides} (h : Sound s) (e : read_in s ≡ Units r
       }
 
   -- past refusals 13, 14 and 19
-  pub parts-ranges : judge_late s (cutter_of s) r ≡ Accepted → PartsRanges s (cutter_of s) r
+  pub parts-ranges : judge_late s (cutter_of s) r ≡ Ok tt → PartsRanges s (cutter_of s) r
   unfolding late_checks
   parts-ranges late =
       let parts = read-parts e in

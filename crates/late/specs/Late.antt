@@ -1,8 +1,7 @@
 -- Refusals 13 and 14, over all parts each, the lowest number first, and then 19 (01, Refusal numbers; 02, M-108).
 use Rattle.std.specs.Prelude.{Bool, List, [], ◌∷◌, ◌++◌, ℕ}
-use Rattle.refusal.specs.declared.Judged.{Judged}
+use Rattle.refusal.specs.Judging.{Judged, Check, judged_by}
 use Rattle.refusal.specs.declared.Refusal.TheVariants.{Dilution, Humidity, Efficiencies}
-use Rattle.refusal.specs.Judging.{Check, judged_by}
 use Rattle.bag.specs.declared.BagSheet.{BagSheet}
 use Rattle.bag.specs.Sheet.{of_third}
 use Rattle.cutter.specs.declared.Cutter.{Cutter}

@@ -13,62 +13,59 @@ ghost use Rattle.late.specs.Ranges.{LateRanges};
 
 use bag::{BagSheet, Part, Triple};
 use cutter::Cutter;
-use refusal::{Judged, Refusal};
+use refusal::Refusal;
 use sides::{Gases, TestSides};
 
 // Refusal 13.
-fn dilution_check(part: u32, triple: Triple, bag: Gases, rest: Judged) -> Judged
+fn dilution_check(part: u32, triple: Triple, bag: Gases) -> Result<(), Refusal>
     requires { (RangedTriple triple) × (ReadingSizes bag) }
-    ensures { result ≡ checked (diluted triple bag) (Dilution part) rest }
+    ensures { result ≡ checked (diluted triple bag) (Dilution part) (Ok tt) }
 {
-    refusal::check(
-        part::is_diluted(triple, bag),
-        Refusal::Dilution { part },
-        rest,
-    )
+    refusal::check(part::is_diluted(triple, bag), Refusal::Dilution { part })
 }
 
 // Refusal 14.
-fn humidity_check(part: u32, p: Part, rest: Judged) -> Judged
+fn humidity_check(part: u32, p: Part) -> Result<(), Refusal>
     requires { Ranged p }
-    ensures { result ≡ checked (dry_enough p) (Humidity part) rest }
+    ensures { result ≡ checked (dry_enough p) (Humidity part) (Ok tt) }
 {
-    refusal::check(part::is_dry_enough(p), Refusal::Humidity { part }, rest)
+    refusal::check(part::is_dry_enough(p), Refusal::Humidity { part })
 }
 
 // Parts past the class's number are not read.
-fn third_dilution(class: u32, triple: Triple, bag: Gases, rest: Judged) -> Judged
+fn third_dilution(class: u32, triple: Triple, bag: Gases) -> Result<(), Refusal>
     requires { (RangedTriple triple) × (ReadingSizes bag) }
-    ensures { result ≡ checked_all (of_third class (dilution 3 (diluted triple bag) ∷ [])) rest }
+    ensures { result ≡ checked_all (of_third class (dilution 3 (diluted triple bag) ∷ [])) (Ok tt) }
 {
     if class == 3 {
-        return dilution_check(3, triple, bag, rest);
+        dilution_check(3, triple, bag)
+    } else {
+        Ok(())
     }
-    rest
 }
 
-fn third_humidity(class: u32, third: Part, rest: Judged) -> Judged
+fn third_humidity(class: u32, third: Part) -> Result<(), Refusal>
     requires { class ≡ 3 → Ranged third }
-    ensures { result ≡ checked_all (of_third class (humidity 3 (dry_enough third) ∷ [])) rest }
+    ensures { result ≡ checked_all (of_third class (humidity 3 (dry_enough third) ∷ [])) (Ok tt) }
 {
     if class == 3 {
-        return humidity_check(3, third, rest);
+        humidity_check(3, third)
+    } else {
+        Ok(())
     }
-    rest
 }
 
 // Refusals 13, 14 and 19, each over all parts before the next.
-#[tactic(auto, unfolding(crate::specs::Late::late_checks))]
-pub fn judge(s: BagSheet, c: Cutter, r: TestSides) -> Judged
+#[tactic(auto, using(refusal::proofs::Judging::one_check, refusal::proofs::Judging::one_after_another), unfolding(crate::specs::Late::late_checks))]
+pub fn judge(s: BagSheet, c: Cutter, r: TestSides) -> Result<(), Refusal>
     requires { LateRanges s c r }
     ensures { result ≡ judge_late s c r }
 {
-    let triple = s.triple;
-    let apart = refusal::check(cutter::is_good(c), Refusal::Efficiencies, Judged::Accepted);
-    let humid_3 = third_humidity(s.class, s.third, apart);
-    let humid_2 = humidity_check(2, s.second, humid_3);
-    let humid_1 = humidity_check(1, s.first, humid_2);
-    let rich_3 = third_dilution(s.class, triple, r.third.bag, humid_1);
-    let rich_2 = dilution_check(2, triple, r.second.bag, rich_3);
-    dilution_check(1, triple, r.first.bag, rich_2)
+    dilution_check(1, s.triple, r.first.bag)?;
+    dilution_check(2, s.triple, r.second.bag)?;
+    third_dilution(s.class, s.triple, r.third.bag)?;
+    humidity_check(1, s.first)?;
+    humidity_check(2, s.second)?;
+    third_humidity(s.class, s.third)?;
+    refusal::check(cutter::is_good(c), Refusal::Efficiencies)
 }

@@ -2,7 +2,7 @@
 #![tactic(auto)]
 
 ghost use Rattle.std.specs.Prelude.{◌≡◌, cond, [], ◌<◌, ltb};
-ghost use Rattle.live.specs.Live.{seen, former_after, mark_of, stays, longer, takes_over, reach, pending_after, stops_after, last_five, step, given_gear, due, given, packed, finish, waiting, fresh};
+ghost use Rattle.live.specs.Live.{seen, former_after, stays, longer, takes_over, reach, pending_after, stops_after, last_five, step, given_gear, due, given, packed, finish, waiting, fresh};
 
 use clutch::clutch_of;
 use row::{Rule, cap_after, capped, ruled};
@@ -20,7 +20,7 @@ pub struct Former {
 }
 
 // Correction 6: the run received last, while it may still take the gear beside it: how many seconds it has, the gear on its left, and whether it has a
-// "no 1. gear" second. One of no seconds stands for a run that stays.
+// "no 1. gear" second, as a number, so that every state is one that a caller can hand back. One of no seconds stands for a run that stays.
 #[repr(C)]
 #[derive(Clone, Copy)]
 pub struct Pending {
@@ -98,13 +98,6 @@ fn former_after(start: bool, f: Former, flags: u8, own: u8) -> Former
     }
 }
 
-// A number, so that every state is one that a caller can hand back.
-fn mark_of(marked: bool) -> u8
-    ensures { result ≡ mark_of marked }
-{
-    if marked { 1 } else { 0 }
-}
-
 fn stays() -> Pending
     ensures { result ≡ stays }
 {
@@ -126,7 +119,7 @@ fn longer(p: Pending, flags: u8) -> Pending
         Pending {
             count: p.count + 1,
             left: p.left,
-            marked: mark_of((0 < p.marked) | house::no_first(flags)),
+            marked: u8::from((0 < p.marked) | house::no_first(flags)),
         }
     } else {
         stays()
@@ -171,7 +164,7 @@ fn pending_after(p: Pending, former: u8, before: u8, flags: u8, gear: u8) -> Pen
     Pending {
         count: 1,
         left: before,
-        marked: mark_of(house::no_first(flags)),
+        marked: u8::from(house::no_first(flags)),
     }
 }
 
@@ -245,13 +238,6 @@ pub fn nothing() -> Given
     }
 }
 
-// A speed as the clutch has it. That it fits is said here once, for all places of the last five.
-fn wide(speed: u16) -> u32
-    ensures { result ≡ speed }
-{
-    speed as u32
-}
-
 // What the call of a second with the flags gives.
 #[tactic(auto, unfolding(crate::specs::Live::given))]
 pub fn give(v: VehicleSheet, s: Live, flags: u8) -> Given
@@ -264,7 +250,7 @@ pub fn give(v: VehicleSheet, s: Live, flags: u8) -> Given
         return nothing();
     }
     let gear = given_gear(stops_after(s.stops, flags), gears[4]);
-    let clutch = clutch_of(v, marks[4], wide(speeds[4]), gear);
+    let clutch = clutch_of(v, marks[4], u32::from(speeds[4]), gear);
     Given {
         count: 1,
         bytes: [gear, clutch, 0, 0, 0, 0, 0, 0, 0, 0],
@@ -292,13 +278,11 @@ pub fn finish(v: VehicleSheet, s: Live) -> Given
     let speeds = s.speeds;
     let m = waiting(s);
     let mut bytes = [0; 10];
-    let mut i = 0;
-    while i < m {
+    for i in 0..m {
         let at = m - (i + 1);
         let gear = gears[at];
         bytes[2 * i] = gear;
-        bytes[2 * i + 1] = clutch_of(v, marks[at], wide(speeds[at]), gear);
-        i += 1;
+        bytes[2 * i + 1] = clutch_of(v, marks[at], u32::from(speeds[at]), gear);
     }
     Given {
         count: m as u32,

@@ -5,8 +5,8 @@ use mathlib.Core.List.{List, [], ◌++◌, append-nil}
 use Prim.Native.Nat.{ℕ, zero, suc}
 use lib.Dec.{eqb}
 use Rattle.refusal.specs.declared.Refusal.{Refusal}
-use Rattle.refusal.specs.declared.Judged.{Judged}
-use Rattle.refusal.specs.declared.Judged.TheVariants.{Accepted, Refused}
+use Rattle.std.specs.Prelude.{Ok, Err}
+use Rattle.refusal.specs.Judging.{Judged}
 use Rattle.refusal.proofs.Numbers.{number-some}
 use Rattle.vehicle.specs.declared.VehicleSheet.{VehicleSheet}
 use Rattle.live.specs.Live.{packed}
@@ -30,8 +30,8 @@ unfolding second_out
 state-next r s = go r.judged refl
   where
     go : (j : Judged) → r.judged ≡ j → (second_out (state_of r) s).state ≡ state_of (go_on j r s)
-    go Accepted e = ap (λ (j : Judged). (cond (eqb (outcome_of j).number 0) (heard_out (heard r.engine s)) (record { state = state_of r; given = packed 0 [] })).state) e
-    go (Refused refusal) e =
+    go (Ok _) e = ap (λ (j : Judged). (cond (eqb (outcome_of j).number 0) (heard_out (heard r.engine s)) (record { state = state_of r; given = packed 0 [] })).state) e
+    go (Err refusal) e =
         ap (λ (j : Judged). (cond (eqb (outcome_of j).number 0) (heard_out (heard r.engine s)) (record { state = state_of r; given = packed 0 [] })).state) e
         ∙ rw (number-some refusal)
 
@@ -40,13 +40,13 @@ unfolding second_out
 bytes_next r s = go r.judged refl
   where
     go : (j : Judged) → r.judged ≡ j → r.bytes ++ bytes_of (second_out (state_of r) s).given ≡ (go_on j r s).bytes
-    go Accepted e = ap (λ (j : Judged). r.bytes ++ bytes_of (cond (eqb (outcome_of j).number 0) (heard_out (heard r.engine s)) (record { state = state_of r; given = packed 0 [] })).given) e
-    go (Refused refusal) e =
+    go (Ok _) e = ap (λ (j : Judged). r.bytes ++ bytes_of (cond (eqb (outcome_of j).number 0) (heard_out (heard r.engine s)) (record { state = state_of r; given = packed 0 [] })).given) e
+    go (Err refusal) e =
         ap (λ (j : Judged). r.bytes ++ bytes_of (cond (eqb (outcome_of j).number 0) (heard_out (heard r.engine s)) (record { state = state_of r; given = packed 0 [] })).given) e
         ∙ rw (number-some refusal) (append-nil r.bytes)
 
 -- ---- all calls
-module _ (version : ℕ) (v : VehicleSheet) (accepted : judge_begin version v ≡ Accepted) (trace : List ℕ) where
+module _ (version : ℕ) (v : VehicleSheet) (accepted : judge_begin version v ≡ Ok tt) (trace : List ℕ) where
   pub state-is : (n : ℕ) → state_after version v trace n ≡ state_of (run_to (begun version v) trace n)
   unfolding state_after run_to begin_out
   state-is zero = ap (λ (j : Judged). begin_by j version v) accepted
@@ -60,9 +60,9 @@ module _ (version : ℕ) (v : VehicleSheet) (accepted : judge_begin version v �
       (λ i. given_is n i ++ bytes_of (second_out (state-is n i) (received_at trace n)).given) ∙ bytes_next (run_to (begun version v) trace n) (received_at trace n)
 
 -- ---- a start that is refused
-module _ (version : ℕ) (v : VehicleSheet) (refusal : Refusal) (refused : judge_begin version v ≡ Refused refusal) (trace : List ℕ) where
+module _ (version : ℕ) (v : VehicleSheet) (refusal : Refusal) (refused : judge_begin version v ≡ Err refusal) (trace : List ℕ) where
   abbrev state : LiveState
-  state = record { outcome = outcome_of (Refused refusal); engine = no_engine }
+  state = record { outcome = outcome_of (Err refusal); engine = no_engine }
 
   began : begin_out version v ≡ state
   unfolding begin_out
@@ -72,7 +72,7 @@ module _ (version : ℕ) (v : VehicleSheet) (refusal : Refusal) (refused : judge
   unfolding second_out
   again s = rw (number-some refusal)
 
-  ends : end_out state ≡ record { outcome = outcome_of (Refused refusal); given = packed 0 [] }
+  ends : end_out state ≡ record { outcome = outcome_of (Err refusal); given = packed 0 [] }
   unfolding end_out
   ends = rw (number-some refusal)
 

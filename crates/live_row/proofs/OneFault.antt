@@ -2,7 +2,7 @@
 use mathlib.Core.Path.{◌≡◌, refl, sym, ap, ◌∙◌}
 use mathlib.Core.Bool.{Bool, true, false, not, cond, ◌&&◌, false≢true}
 use mathlib.Core.List.{List}
-use Prim.Native.Nat.{ℕ, ◌+◌, ◌-◌, ◌*◌, ◌≤◌, ◌<◌}
+use Prim.Native.Nat.{ℕ, ◌+◌, ◌*◌, ◌≤◌, ◌<◌}
 use native.Mathlib.Decide.{dec_lt}
 use native.Mathlib.Omega.{arith}
 use borrow.Author.Tests.{lt-ltb, leb-true, eq-eqb}
@@ -10,9 +10,8 @@ use lib.Dec.{eqb, leb, ltb}
 use lib.ListN.{length}
 use Rattle.refusal.specs.declared.Refusal.{Refusal}
 use Rattle.refusal.specs.declared.Refusal.TheVariants.{Count, Second, Marked, TooClose}
-use Rattle.refusal.specs.declared.Judged.{Judged}
-use Rattle.refusal.specs.declared.Judged.TheVariants.{Accepted, Refused}
-use Rattle.refusal.specs.Judging.{checked, and_then}
+use Rattle.std.specs.Prelude.{Ok, Err}
+use Rattle.refusal.specs.Judging.{Judged, checked, and_then}
 use Rattle.refusal.proofs.Judging.{checked-holds, refused-not}
 use Rattle.refusal.proofs.Ranges.{both}
 use Rattle.walk.specs.Walk.{scan}
@@ -57,7 +56,7 @@ module _ (trace : List ℕ) (v : VehicleSheet) (room start k : ℕ) (refusal : R
   clear i = not (second_by_tenths (tenths_of (shift_of v)) (flags_at trace i) (speed_at trace i)).close
 
   abbrev asked : ℕ → Judged
-  asked i = checked (second_good trace i) (Second (i + 1)) (checked (may i) (Marked (i + 1)) (checked (clear i) (TooClose (i + 1)) Accepted))
+  asked i = checked (second_good trace i) (Second (i + 1)) (checked (may i) (Marked (i + 1)) (checked (clear i) (TooClose (i + 1)) (Ok tt)))
 
   said-is : (i : ℕ) → i < n → said_alone trace v i ≡ asked i
   unfolding judge_second
@@ -73,7 +72,7 @@ module _ (trace : List ℕ) (v : VehicleSheet) (room start k : ℕ) (refusal : R
   fine i l other =
       let first = checked-holds (second_good trace i) (Second (i + 1)) _ (sym (said-is i l) ∙ f.others i l other) in
       let second = checked-holds (may i) (Marked (i + 1)) _ first.1 in
-      record { good = first.0; unmarked = second.0; free = (checked-holds (clear i) (TooClose (i + 1)) Accepted second.1).0 }
+      record { good = first.0; unmarked = second.0; free = (checked-holds (clear i) (TooClose (i + 1)) (Ok tt) second.1).0 }
 
   -- a search that finds k, and one that finds nothing
   found : {A : Type 0} (test : ℕ → Bool) (out done : ℕ → A) → ((i : ℕ) → i < n → (i ≡ k → ⊥) → test i ≡ true) → test k ≡ false → scan test out done 0 n ≡ out k
@@ -101,42 +100,42 @@ module _ (trace : List ℕ) (v : VehicleSheet) (room start k : ℕ) (refusal : R
   read-to j e = rw (f.headed, f.counted, eq-eqb (length trace) (8 + 4 * n) f.long) e
 
   answer-of : (a b c : Judged) → judge_trace trace ≡ a → marks_by v trace n ≡ b → judge_close (shift_of v) trace 0 n ≡ c
-      → gear_answer trace v room start ≡ and_then (and_then a (and_then Accepted (and_then b Accepted))) c
+      → gear_answer trace v room start ≡ and_then (and_then a (and_then (Ok tt) (and_then b (Ok tt)))) c
   unfolding gear_answer judge_sheet
   answer-of a b c first second third = (λ i. and_then (and_then (first i) (and_then (f.taken i) (and_then (second i) (f.fits i)))) (third i))
 
-  marks-found : may k ≡ false → marks_by v trace n ≡ Refused (Marked (k + 1))
+  marks-found : may k ≡ false → marks_by v trace n ≡ Err (Marked (k + 1))
   marks-found bad = go (eqb v.rules 2) refl
     where
-      go : (b : Bool) → eqb v.rules 2 ≡ b → cond b (judge_marks trace 0 n) Accepted ≡ Refused (Marked (k + 1))
+      go : (b : Bool) → eqb v.rules 2 ≡ b → cond b (judge_marks trace 0 n) (Ok tt) ≡ Err (Marked (k + 1))
       go true e =
-          found (λ i. not (marked_at trace i)) (λ i. Refused (Marked (i + 1))) (λ i. Accepted)
+          found (λ i. not (marked_at trace i)) (λ i. Err (Marked (i + 1))) (λ i. Ok tt)
           (λ i l other. ap (λ (b : Bool). not (b && marked_at trace i)) (sym e) ∙ (fine i l other).unmarked)
           (ap (λ (b : Bool). not (b && marked_at trace k)) (sym e) ∙ bad)
       go false e = absurd (false≢true (sym bad ∙ ap (λ (b : Bool). not (b && marked_at trace k)) e))
 
-  marks-none : may k ≡ true → marks_by v trace n ≡ Accepted
+  marks-none : may k ≡ true → marks_by v trace n ≡ Ok tt
   marks-none good = go (eqb v.rules 2) refl
     where
-      go : (b : Bool) → eqb v.rules 2 ≡ b → cond b (judge_marks trace 0 n) Accepted ≡ Accepted
+      go : (b : Bool) → eqb v.rules 2 ≡ b → cond b (judge_marks trace 0 n) (Ok tt) ≡ Ok tt
       go true e =
-          none (λ i. not (marked_at trace i)) (λ i. Refused (Marked (i + 1))) (λ i. Accepted)
+          none (λ i. not (marked_at trace i)) (λ i. Err (Marked (i + 1))) (λ i. Ok tt)
           (λ i l other. ap (λ (b : Bool). not (b && marked_at trace i)) (sym e) ∙ (fine i l other).unmarked)
           (ap (λ (b : Bool). not (b && marked_at trace k)) (sym e) ∙ good)
       go false e = refl
 
-  all-good : second_good trace k ≡ true → judge_trace trace ≡ Accepted
-  all-good good = read-to Accepted (none (second_good trace) (λ i. Refused (Second (i + 1))) (λ i. Accepted) (λ i l other. (fine i l other).good) good)
+  all-good : second_good trace k ≡ true → judge_trace trace ≡ Ok tt
+  all-good good = read-to (Ok tt) (none (second_good trace) (λ i. Err (Second (i + 1))) (λ i. Ok tt) (λ i l other. (fine i l other).good) good)
 
-  close_at_lem : clear k ≡ false → second_good trace k ≡ true → judge_close (shift_of v) trace 0 n ≡ Refused (TooClose (k + 1))
+  close_at_lem : clear k ≡ false → second_good trace k ≡ true → judge_close (shift_of v) trace 0 n ≡ Err (TooClose (k + 1))
   close_at_lem bad good =
-      found (λ i. not (own_at (shift_of v) trace i).close) (λ i. Refused (TooClose (i + 1))) (λ i. Accepted)
+      found (λ i. not (own_at (shift_of v) trace i).close) (λ i. Err (TooClose (i + 1))) (λ i. Ok tt)
       (λ i l other. let x = fine i l other in clear-is i x.good ∙ x.free) (clear-is k good ∙ bad)
 
   present-by : (g m c : Bool) → second_good trace k ≡ g → may k ≡ m → clear k ≡ c
-      → checked g (Second (k + 1)) (checked m (Marked (k + 1)) (checked c (TooClose (k + 1)) Accepted)) ≡ Refused refusal → gear_answer trace v room start ≡ Refused refusal
+      → checked g (Second (k + 1)) (checked m (Marked (k + 1)) (checked c (TooClose (k + 1)) (Ok tt))) ≡ Err refusal → gear_answer trace v room start ≡ Err refusal
   present-by false m c bad second third e =
-      answer-of _ _ _ (read-to (Refused (Second (k + 1))) (found (second_good trace) (λ i. Refused (Second (i + 1))) (λ i. Accepted) (λ i l other. (fine i l other).good) bad)) refl refl ∙ e
+      answer-of _ _ _ (read-to (Err (Second (k + 1))) (found (second_good trace) (λ i. Err (Second (i + 1))) (λ i. Ok tt) (λ i l other. (fine i l other).good) bad)) refl refl ∙ e
   present-by true false c good bad third e = answer-of _ _ _ (all-good good) (marks-found bad) refl ∙ e
   present-by true true false good fair bad e = answer-of _ _ _ (all-good good) (marks-none fair) (close_at_lem bad good) ∙ e
   present-by true true true good fair free e = absurd (refused-not (sym e))
@@ -145,18 +144,18 @@ module _ (trace : List ℕ) (v : VehicleSheet) (room start k : ℕ) (refusal : R
   said-alone : (i : ℕ) → said_of (version_of trace) sound trace i ≡ said_alone trace v i
   unfolding judge_second
   said-alone i =
-      ap (λ (received : ℕ). checked (ltb received 2000) Count (checked (second_good trace i) (Second (received + 1)) (checked (may i) (Marked (received + 1)) (checked (clear i) (TooClose (received + 1)) Accepted))))
+      ap (λ (received : ℕ). checked (ltb received 2000) Count (checked (second_good trace i) (Second (received + 1)) (checked (may i) (Marked (received + 1)) (checked (clear i) (TooClose (received + 1)) (Ok tt)))))
       (received_is (own (version_of trace) sound trace) trace i)
 
-  began : judge_begin (version_of trace) v ≡ Accepted
+  began : judge_begin (version_of trace) v ≡ Ok tt
   unfolding judge_begin
   began = rw (headed-readable trace f.headed) f.taken
 
-  run_is : (r : Run) → Fate (version_of trace) sound trace n r → r.judged ≡ Refused refusal
+  run_is : (r : Run) → Fate (version_of trace) sound trace n r → r.judged ≡ Err refusal
   run_is r (runs all) = absurd (refused-not (sym (said-alone k ∙ f.fault) ∙ all k f.within))
   run_is r (ends i other l all e) = go (dec_lt i k) (dec_lt k i)
     where
-      go : Dec (i < k) → Dec (k < i) → Refused other ≡ Refused refusal
+      go : Dec (i < k) → Dec (k < i) → ◌≡◌ {A = Judged} (Err other) (Err refusal)
       go (yes below) past = absurd (refused-not (sym e ∙ said-alone i ∙ f.others i l (λ z. omega arith)))
       go (no above) (yes past) = absurd (refused-not (sym e ∙ said-alone i ∙ f.others i l (λ z. omega arith)))
       go (no above) (no past) =

@@ -6,7 +6,7 @@ use mathlib.Core.Bool.{true, false≢true}
 use native.Mathlib.Omega.{arith}
 use borrow.Author.Tests.{eq-eqb}
 use lib.ListN.{take}
-use Rattle.refusal.specs.declared.Judged.TheVariants.{Accepted}
+use Rattle.std.specs.Prelude.{Ok}
 use Rattle.refusal.specs.Table.{number_of}
 use Rattle.refusal.proofs.Numbers.{number-some}
 use Rattle.house.specs.House.{readable}
@@ -27,7 +27,7 @@ use Rattle.prompt_crossing.specs.declared.LiveState.{LiveState}
 use Rattle.live_row.specs.Statements.{state_after, given_after, Begins, Starts}
 use Rattle.live_row.proofs.Calls.{state_of, state-is, given_is}
 
-module _ (version : ℕ) (v : VehicleSheet) (named : readable version ≡ true) (accepted : judge_vehicle v ≡ Accepted) (trace : List ℕ) where
+module _ (version : ℕ) (v : VehicleSheet) (named : readable version ≡ true) (accepted : judge_vehicle v ≡ Ok tt) (trace : List ℕ) where
   abbrev sound : Sound v
   sound = accepted-sound v accepted
 
@@ -44,7 +44,7 @@ module _ (version : ℕ) (v : VehicleSheet) (named : readable version ≡ true) 
   abbrev run : ℕ → Run
   run = run_to (begun version v) trace
 
-  began : judge_begin version v ≡ Accepted
+  began : judge_begin version v ≡ Ok tt
   unfolding judge_begin
   began = rw named accepted
 

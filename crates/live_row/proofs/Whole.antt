@@ -2,12 +2,12 @@
 use mathlib.Core.Path.{◌≡◌, refl, ap, ◌∙◌}
 use mathlib.Core.Bool.{Bool, true, false, not, cond, ◌&&◌}
 use mathlib.Core.List.{List, ◌++◌}
-use Prim.Native.Nat.{ℕ, ◌+◌, ◌<◌}
+use Prim.Native.Nat.{ℕ, ◌<◌}
 use native.Mathlib.Omega.{arith}
 use borrow.Author.Tests.{lt-ltb}
 use lib.Dec.{eqb}
-use Rattle.refusal.specs.declared.Judged.{Judged}
-use Rattle.refusal.specs.declared.Judged.TheVariants.{Accepted}
+use Rattle.std.specs.Prelude.{Ok}
+use Rattle.refusal.specs.Judging.{Judged}
 use Rattle.refusal.proofs.Judging.{then-holds, refused-not}
 use Rattle.walk.proofs.Walk.{all-good}
 use Rattle.house.specs.House.{version_of, count_of, speed_at, flags_at, marked_at}
@@ -33,15 +33,15 @@ use Rattle.live_row.specs.Statements.{state_after, given_after, WholeRow}
 use Rattle.live_row.proofs.Calls.{state_of, state-is, given_is}
 
 -- ---- what an accepted sheet tells of each second
-module _ (trace : List ℕ) (v : VehicleSheet) (room start : ℕ) (accepted : gear_answer trace v room start ≡ Accepted) where
+module _ (trace : List ℕ) (v : VehicleSheet) (room start : ℕ) (accepted : gear_answer trace v room start ≡ Ok tt) where
   abbrev n : ℕ
   n = count_of trace
 
-  answered : (judge_sheet trace v room start ≡ Accepted) × (judge_close (shift_of v) trace 0 n ≡ Accepted)
+  answered : (judge_sheet trace v room start ≡ Ok tt) × (judge_close (shift_of v) trace 0 n ≡ Ok tt)
   unfolding gear_answer
   answered = then-holds (judge_sheet trace v room start) (judge_close (shift_of v) trace 0 n) accepted
 
-  read : (judge_trace trace ≡ Accepted) × (judge_vehicle v ≡ Accepted) × (marks_by v trace n ≡ Accepted)
+  read : (judge_trace trace ≡ Ok tt) × (judge_vehicle v ≡ Ok tt) × (marks_by v trace n ≡ Ok tt)
   unfolding judge_sheet
   read =
       let first = then-holds (judge_trace trace) _ answered.0 in
@@ -57,23 +57,23 @@ module _ (trace : List ℕ) (v : VehicleSheet) (room start : ℕ) (accepted : ge
   may-be : (k : ℕ) → k < n → may_be (engine_at (version_of trace) sound trace k) (received_at trace k) ≡ true
   may-be k l = go (eqb v.rules 2) read.2
     where
-      go : (b : Bool) → cond b (judge_marks trace 0 n) Accepted ≡ Accepted → not (b && marked_at trace k) ≡ true
-      go true e = all-good (λ k. not (marked_at trace k)) _ _ Accepted (λ k. refused-not) n e k l
+      go : (b : Bool) → cond b (judge_marks trace 0 n) (Ok tt) ≡ Ok tt → not (b && marked_at trace k) ≡ true
+      go true e = all-good (λ k. not (marked_at trace k)) _ _ (Ok tt) (λ k. refused-not) n e k l
       go false e = refl
 
   not-close : (k : ℕ) → k < n → not (own_of (engine_at (version_of trace) sound trace k) (received_at trace k)).close ≡ true
   not-close k l =
       ap (λ (o : Own). not o.close) (second-by-tenths sound (flags_at trace k) (speed_at trace k) ((trace-sound trace read.0).speeds k l))
-      ∙ all-good (λ k. not (own_at (shift_of v) trace k).close) _ _ Accepted (λ k. refused-not) n answered.1 k l
+      ∙ all-good (λ k. not (own_at (shift_of v) trace k).close) _ _ (Ok tt) (λ k. refused-not) n answered.1 k l
 
-  said-accepted : (k : ℕ) → k < n → said_of (version_of trace) sound trace k ≡ Accepted
+  said-accepted : (k : ℕ) → k < n → said_of (version_of trace) sound trace k ≡ Ok tt
   unfolding judge_second
   said-accepted k l =
       let few = (trace-sound trace read.0).few in
       let received = received_is seconds trace k in
       rw (lt-ltb (state_at seconds trace k).received 2000 (omega arith), seconds-good trace read.0 k l, may-be k l, not-close k l)
 
-  end-accepted : judge_end (engine_at (version_of trace) sound trace n) ≡ Accepted
+  end-accepted : judge_end (engine_at (version_of trace) sound trace n) ≡ Ok tt
   unfolding judge_end
   end-accepted =
       let some = (trace-sound trace read.0).some in
@@ -84,7 +84,7 @@ module _ (trace : List ℕ) (v : VehicleSheet) (room start : ℕ) (accepted : ge
   unfolding ended
   rest-is = ap (λ (j : Judged). bytes_of (ended_by j (engine_at (version_of trace) sound trace n)).given) end-accepted ∙ finish-bytes v (state_at seconds trace n)
 
-  begins : judge_begin (version_of trace) v ≡ Accepted
+  begins : judge_begin (version_of trace) v ≡ Ok tt
   unfolding judge_begin
   begins = rw (version-readable trace read.0) read.1
 

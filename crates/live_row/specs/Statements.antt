@@ -1,8 +1,7 @@
 -- What is promised of prompting the rider live (02, M-110), beside the row of the gear sheet. The theorems are those of proofs/Whole.antt, Starts.antt, Calls.antt and OneFault.antt. Seconds count from 0 here.
-use Rattle.std.specs.Prelude.{◌≡◌, true, List, [], ◌++◌, ℕ, zero, suc, ◌+◌, ◌-◌, ◌*◌, ◌≤◌, ◌<◌, length, take}
+use Rattle.std.specs.Prelude.{◌≡◌, true, List, [], ◌++◌, ℕ, zero, suc, ◌+◌, ◌-◌, ◌*◌, ◌≤◌, ◌<◌, length, take, Ok, Err}
 use Rattle.refusal.specs.declared.Refusal.{Refusal}
-use Rattle.refusal.specs.declared.Judged.{Judged}
-use Rattle.refusal.specs.declared.Judged.TheVariants.{Accepted, Refused}
+use Rattle.refusal.specs.Judging.{Judged}
 use Rattle.house.specs.House.{headed, version_of, count_of, speed_at, flags_at}
 use Rattle.trace.specs.Judging.{countable}
 use Rattle.vehicle.specs.declared.VehicleSheet.{VehicleSheet}
@@ -85,12 +84,12 @@ pub record OneFault (trace : List ℕ) (v : VehicleSheet) (room start k : ℕ) (
   pub headed : headed trace ≡ true
   pub counted : countable (count_of trace) ≡ true
   pub long : length trace ≡ 8 + 4 * count_of trace
-  pub taken : judge_vehicle v ≡ Accepted
-  pub fits : judge_room (count_of trace) room start ≡ Accepted
+  pub taken : judge_vehicle v ≡ Ok tt
+  pub fits : judge_room (count_of trace) room start ≡ Ok tt
   pub within : k < count_of trace
-  pub fault : said_alone trace v k ≡ Refused refusal
-  pub others : (i : ℕ) → i < count_of trace → (i ≡ k → ⊥) → said_alone trace v i ≡ Accepted
+  pub fault : said_alone trace v k ≡ Err refusal
+  pub others : (i : ℕ) → i < count_of trace → (i ≡ k → ⊥) → said_alone trace v i ≡ Ok tt
 
 pub record SameRefusal (trace : List ℕ) (v : VehicleSheet) (room start : ℕ) (refusal : Refusal) : Type 0 where
-  pub present : gear_answer trace v room start ≡ Refused refusal
-  pub live : (state_after (version_of trace) v trace (count_of trace)).outcome ≡ outcome_of (Refused refusal)
+  pub present : gear_answer trace v room start ≡ Err refusal
+  pub live : (state_after (version_of trace) v trace (count_of trace)).outcome ≡ outcome_of (Err refusal)

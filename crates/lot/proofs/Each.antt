@@ -1,7 +1,7 @@
 -- What is made for each gas is each gas's. Assumes nothing.
 use mathlib.Core.Path.{◌≡◌}
-use Rattle.reading.specs.Gas.{Gas}
-use Rattle.reading.proofs.Gas.{among-each}
+use Rattle.refusal.specs.declared.Gas.{Gas}
+use Rattle.bag.proofs.Gas.{among-each}
 use Rattle.tally.specs.declared.GasSheet.{GasSheet}
 use Rattle.tally.specs.declared.Tally.{Tally}
 use Rattle.lot.specs.Lot.{sheet_at, each_sheet}

@@ -6,7 +6,9 @@ use mathlib.Core.Option.{Option, none, some}
 use Prim.Native.Nat.{ℕ, suc, ◌≤◌}
 use native.Mathlib.Omega.{arith}
 use lib.ListN.{length}
-use Rattle.reading.specs.Gas.{Gas, HC, CO, NOx, CO2, NMHC}
+use Rattle.std.specs.Prelude.{Ok, Err, Result}
+use Rattle.refusal.specs.declared.Gas.{Gas}
+use Rattle.refusal.specs.declared.Gas.TheVariants.{HC, CO, NOx, CO2, NMHC}
 use Rattle.arith.specs.Fitting.{Sized}
 use Rattle.sides.specs.Gases.{ends_at}
 use Rattle.record.specs.declared.Record.{Record}
@@ -16,8 +18,6 @@ use Rattle.tally.specs.Room.{Roomy}
 use Rattle.tally.specs.Kept.{tally_of, no_tally}
 use Rattle.tally.proofs.Counts.{added-one, no_room, added-room, wider-tally, gas-is}
 use Rattle.lot.specs.declared.Tallies.{Tallies}
-use Rattle.lot.specs.declared.Running.{Running}
-use Rattle.lot.specs.declared.Running.TheVariants.{Counted, Faulty}
 use Rattle.lot.specs.Lot.{entry_at, entries_from, entries_of, each_sheet, sheet_of, faulty, first_fault, on_fault}
 use Rattle.lot.specs.Kept.{tally_at, each_tally, tallies_from, added_if, with_record, running_of, running_from, nothing, kept_with, joined_to, sheet_by, answer_by}
 use Rattle.lot.specs.Room.{Sound, RoomyAll, RoomyRun}
@@ -37,7 +37,7 @@ with-one at r rs =
     (λ i. record { hc = one HC i; co = one CO i; nox = one NOx i; co2 = one CO2 i; nmhc = one NMHC i })
 
 joined_by : (at : ℕ) (r : Record) (rs : List Record) (t : Bool) (f : Option ℕ)
-    → running_of (cond t (some at) f) (tallies_from at (r ∷ rs)) ≡ cond t (Faulty at) (kept_with at r (running_of f (tallies_from (suc at) rs)))
+    → running_of (cond t (some at) f) (tallies_from at (r ∷ rs)) ≡ cond t (Err at) (kept_with at r (running_of f (tallies_from (suc at) rs)))
 joined_by at r rs true f = refl
 joined_by at r rs false none = rw (with-one at r rs)
 joined_by at r rs false (some k) = refl
@@ -59,15 +59,15 @@ with-room m at r t s h gas = rw (tally-at gas (λ g. added_if (has_gas g r) (ent
     go true s = added-room m (entry_at gas at r) (tally_at gas t) (s refl) (h gas)
     go false s = wider-tally (omega arith) (h gas)
 
-kept-room : (m at : ℕ) (r : Record) (after : Running) → Sound r → RoomyRun m after → RoomyRun (suc m) (kept_with at r after)
-kept-room m at r (Counted t) s h = with-room m at r t s h
-kept-room m at r (Faulty index) s h = tt
+kept-room : (m at : ℕ) (r : Record) (after : Result Tallies ℕ) → Sound r → RoomyRun m after → RoomyRun (suc m) (kept_with at r after)
+kept-room m at r (Ok t) s h = with-room m at r t s h
+kept-room m at r (Err index) s h = tt
 
-joined-room : (m at : ℕ) (r : Record) (after : Running) → RoomyRun m after → RoomyRun (suc m) (joined_to at r after)
+joined-room : (m at : ℕ) (r : Record) (after : Result Tallies ℕ) → RoomyRun m after → RoomyRun (suc m) (joined_to at r after)
 unfolding joined_to
 joined-room m at r after h = go (faulty r) (sound r)
   where
-    go : (t : Bool) → (t ≡ false → Sound r) → RoomyRun (suc m) (cond t (Faulty at) (kept_with at r after))
+    go : (t : Bool) → (t ≡ false → Sound r) → RoomyRun (suc m) (cond t (Err at) (kept_with at r after))
     go true s = tt
     go false s = kept-room m at r after (s refl) h
 
@@ -80,9 +80,9 @@ running-room at [] = subst (RoomyRun 0) (sym (running_none at)) none-room
 running-room at (r ∷ rs) =
     subst (RoomyRun (suc (length rs))) (sym (running-step at r rs)) (joined-room (length rs) at r (running_from (suc at) rs) (running-room (suc at) rs))
 
-pub wider-room : (m k : ℕ) (running : Running) → m ≤ k → RoomyRun m running → RoomyRun k running
-wider-room m k (Counted t) h r = λ gas. wider-tally h (r gas)
-wider-room m k (Faulty index) h r = tt
+pub wider-room : (m k : ℕ) (running : Result Tallies ℕ) → m ≤ k → RoomyRun m running → RoomyRun k running
+wider-room m k (Ok t) h r = λ gas. wider-tally h (r gas)
+wider-room m k (Err index) h r = tt
 
 -- ---- the answer
 answer-by : (rs : List Record) (f : Option ℕ) → answer_by (running_of f (tallies_from 0 rs)) ≡ on_fault f (sheet_of rs)

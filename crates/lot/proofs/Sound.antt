@@ -1,8 +1,9 @@
 -- A record is not faulty exactly where no gas that it has is. Assumes nothing.
 use mathlib.Core.Path.{◌≡◌, sym}
 use mathlib.Core.Bool.{Bool, true, false, ◌&&◌, ◌||◌, true≢false}
-use Rattle.reading.specs.Gas.{Gas, HC, CO, NOx, CO2, NMHC}
-use Rattle.reading.proofs.Gas.{by-gas}
+use Rattle.refusal.specs.declared.Gas.{Gas}
+use Rattle.refusal.specs.declared.Gas.TheVariants.{HC, CO, NOx, CO2, NMHC}
+use Rattle.bag.proofs.Gas.{by-gas}
 use Rattle.sides.specs.Gases.{ends_at}
 use Rattle.record.specs.declared.Record.{Record}
 use Rattle.record.specs.Record.{has_gas}

@@ -1,16 +1,17 @@
 -- The lot sheet (02, M-105 and M-108): "Over a lent list of result records, at most 256, give per gas: ..". What is given of a gas is gas_sheet of tally, of its entries.
-use Rattle.std.specs.Prelude.{Bool, cond, ◌&&◌, ◌||◌, List, [], ◌∷◌, ℕ, suc, leb, length}
+use Rattle.std.specs.Prelude.{Bool, cond, ◌&&◌, ◌||◌, List, [], ◌∷◌, ℕ, suc, leb, length, Ok, Err, Result}
 use Rattle.std.proofs.Math.Option.{Option, none, some}
+use Rattle.refusal.specs.declared.Gas.{Gas}
+use Rattle.refusal.specs.declared.Gas.TheVariants.{HC, CO, NOx, CO2, NMHC}
+use Rattle.refusal.specs.declared.Refusal.{Refusal}
 use Rattle.refusal.specs.declared.Refusal.TheVariants.{LotSize, LotRecord}
-use Rattle.reading.specs.Gas.{Gas, HC, CO, NOx, CO2, NMHC, among}
+use Rattle.bag.specs.Gas.{among}
 use Rattle.sides.specs.Gases.{ends_at}
 use Rattle.record.specs.declared.Record.{Record}
 use Rattle.record.specs.Record.{number_at, has_gas}
 use Rattle.tally.specs.declared.GasSheet.{GasSheet}
 use Rattle.tally.specs.Entries.{Entry, entry, faulty_ends, gas_sheet}
 use Rattle.lot.specs.declared.LotSheet.{LotSheet}
-use Rattle.lot.specs.declared.LotAnswer.{LotAnswer}
-use Rattle.lot.specs.declared.LotAnswer.TheVariants.{Sheet, Refused}
 
 -- ---- a gas of a record, and of every record, the first one's index being `at`: "The verdicts counted are those in the records"
 abbrev pub entry_at : Gas → ℕ → Record → Entry
@@ -51,9 +52,9 @@ first_fault at (r ∷ rs) = cond (faulty r) (some at) (first_fault (suc at) rs)
 abbrev pub most_records : ℕ
 most_records = 256
 
-abbrev pub on_fault : Option ℕ → LotSheet → LotAnswer
-on_fault none sheet = Sheet sheet
-on_fault (some index) sheet = Refused (LotRecord index)
+abbrev pub on_fault : Option ℕ → LotSheet → Result LotSheet Refusal
+on_fault none sheet = Ok sheet
+on_fault (some index) sheet = Err (LotRecord index)
 
-unfoldable pub lot_answer : List Record → LotAnswer
-lot_answer rs = cond (leb (length rs) most_records) (on_fault (first_fault 0 rs) (sheet_of rs)) (Refused LotSize)
+unfoldable pub lot_answer : List Record → Result LotSheet Refusal
+lot_answer rs = cond (leb (length rs) most_records) (on_fault (first_fault 0 rs) (sheet_of rs)) (Err LotSize)

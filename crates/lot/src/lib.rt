@@ -4,7 +4,7 @@
 
 ghost use Rattle.std.specs.Prelude.{◌≡◌, true, ◌<◌};
 ghost use Rattle.arith.specs.Fitting.{Sized};
-ghost use Rattle.reading.specs.Gas.{NMHC};
+ghost use Rattle.refusal.specs.declared.Gas.TheVariants.{NMHC};
 ghost use Rattle.record.specs.Record.{has_gas};
 ghost use Rattle.tally.specs.Entries.{entry, most_end};
 ghost use Rattle.tally.specs.Room.{Roomy};
@@ -26,12 +26,7 @@ pub struct LotSheet {
     pub nmhc: GasSheet,
 }
 
-#[derive(Clone, Copy)]
-pub enum LotAnswer {
-    Sheet(LotSheet),
-    Refused(Refusal),
-}
-
+// What is kept of the records from one on to the last. Where one is faulty, the index of the first that is stands in its place.
 #[derive(Clone, Copy)]
 pub struct Tallies {
     pub hc: Tally,
@@ -39,13 +34,6 @@ pub struct Tallies {
     pub nox: Tally,
     pub co2: Tally,
     pub nmhc: Tally,
-}
-
-// What is kept of the records from one on to the last: their tallies, or the index of the first that is faulty.
-#[derive(Clone, Copy)]
-pub enum Running {
-    Counted(Tallies),
-    Faulty(u32),
 }
 
 fn has_nmhc(r: Record) -> bool
@@ -71,9 +59,10 @@ fn added_if(has: bool, at: u32, ends: Ends, verdict: u32, t: Tally) -> Tally
     ensures { result ≡ added_if has (entry at ends verdict) t }
 {
     if has {
-        return tally::added(at, ends, verdict, t);
+        tally::added(at, ends, verdict, t)
+    } else {
+        t
     }
-    t
 }
 
 #[tactic(auto, unfolding(crate::specs::Kept::each_tally, crate::specs::Kept::with_record))]
@@ -94,25 +83,23 @@ fn with_record(at: u32, r: Record, t: Tallies) -> Tallies
 
 // One record more, before the others: its fault comes before theirs.
 #[tactic(auto, unfolding(crate::specs::Kept::joined_to))]
-pub fn joined(at: usize, r: Record, after: Running) -> Running
+pub fn joined(at: usize, r: Record, after: Result<Tallies, u32>) -> Result<Tallies, u32>
     requires { (at < 256) × (RoomyRun 255 after) }
     ensures { result ≡ joined_to at r after }
 {
     let index = at as u32;
     if is_faulty(r) {
-        return Running::Faulty(index);
+        return Err(index);
     }
-    match after {
-        Running::Counted(t) => Running::Counted(with_record(index, r, t)),
-        Running::Faulty(k) => Running::Faulty(k),
-    }
+    let t = after?;
+    Ok(with_record(index, r, t))
 }
 
 #[tactic(auto, unfolding(crate::specs::Kept::each_tally, crate::specs::Kept::nothing))]
-pub fn no_records() -> Running
+pub fn no_records() -> Result<Tallies, u32>
     ensures { result ≡ nothing }
 {
-    Running::Counted(Tallies {
+    Ok(Tallies {
         hc: tally::no_tally(),
         co: tally::no_tally(),
         nox: tally::no_tally(),
@@ -144,15 +131,11 @@ fn sheet_by(t: Tallies) -> LotSheet
 
 // What a list of n records is answered with, from what was kept of those that were read: 18, then 21, or the sheet.
 #[tactic(auto, unfolding(crate::specs::Kept::finished_by))]
-pub fn finished(n: usize, running: Running) -> LotAnswer
+pub fn finished(n: usize, running: Result<Tallies, u32>) -> Result<LotSheet, Refusal>
     requires { RoomyRun 256 running }
     ensures { result ≡ finished_by n running }
 {
-    if 256 < n {
-        return LotAnswer::Refused(Refusal::LotSize);
-    }
-    match running {
-        Running::Counted(t) => LotAnswer::Sheet(sheet_by(t)),
-        Running::Faulty(index) => LotAnswer::Refused(Refusal::LotRecord { index }),
-    }
+    refusal::check(n <= 256, Refusal::LotSize)?;
+    let t = running.map_err(|index| Refusal::LotRecord { index })?;
+    Ok(sheet_by(t))
 }

@@ -5,9 +5,9 @@ ghost use Rattle.std.specs.Prelude.{◌≡◌};
 ghost use Rattle.lot_crossing.specs.Lot.{no_gas, gas_out, refused_out, sheet_out, lot_out};
 
 use arith::Ends;
-use lot::{LotAnswer, LotSheet};
+use lot::LotSheet;
 use outcome::Outcome;
-use refusal::{Judged, Refusal};
+use refusal::Refusal;
 use tally::{GasSheet, Mean};
 
 // Where no record is counted there is no mean and no worst record, and both stand as 0.
@@ -33,29 +33,23 @@ pub struct LotOutcome {
     pub nmhc: LotGas,
 }
 
-#[tactic(auto, unfolding(crate::specs::Lot::gas_out))]
-fn gas_out(g: GasSheet) -> LotGas
-    ensures { result ≡ gas_out g }
-{
-    let sum = g.sum;
-    let mean = g.mean;
-    match mean {
-        Mean::Nothing => LotGas {
-            passed: g.passed,
-            failed: g.failed,
-            undecided: g.undecided,
+impl From<GasSheet> for LotGas {
+    ghost from_gives = { λ g out. out ≡ gas_out g };
+
+    #[tactic(auto, unfolding(crate::specs::Lot::gas_out))]
+    fn from(g: GasSheet) -> LotGas {
+        let mean = g.mean.unwrap_or(Mean {
+            ends: arith::exactly(0),
             worst: 0,
-            sum,
-            mean: arith::exactly(0),
-        },
-        Mean::Of { ends, worst } => LotGas {
+        });
+        LotGas {
             passed: g.passed,
             failed: g.failed,
             undecided: g.undecided,
-            worst,
-            sum,
-            mean: ends,
-        },
+            worst: mean.worst,
+            sum: g.sum,
+            mean: mean.ends,
+        }
     }
 }
 
@@ -64,12 +58,12 @@ fn sheet_out(s: LotSheet) -> LotOutcome
     ensures { result ≡ sheet_out s }
 {
     LotOutcome {
-        outcome: outcome::outcome_of(Judged::Accepted),
-        hc: gas_out(s.hc),
-        co: gas_out(s.co),
-        nox: gas_out(s.nox),
-        co2: gas_out(s.co2),
-        nmhc: gas_out(s.nmhc),
+        outcome: Outcome::from(Ok(())),
+        hc: LotGas::from(s.hc),
+        co: LotGas::from(s.co),
+        nox: LotGas::from(s.nox),
+        co2: LotGas::from(s.co2),
+        nmhc: LotGas::from(s.nmhc),
     }
 }
 
@@ -92,7 +86,7 @@ fn refused_out(refusal: Refusal) -> LotOutcome
     ensures { result ≡ refused_out refusal }
 {
     LotOutcome {
-        outcome: outcome::outcome_of(Judged::Refused(refusal)),
+        outcome: Outcome::from(Err(refusal)),
         hc: no_gas(),
         co: no_gas(),
         nox: no_gas(),
@@ -101,11 +95,13 @@ fn refused_out(refusal: Refusal) -> LotOutcome
     }
 }
 
-pub fn lot_out(answer: LotAnswer) -> LotOutcome
-    ensures { result ≡ lot_out answer }
-{
-    match answer {
-        LotAnswer::Sheet(sheet) => sheet_out(sheet),
-        LotAnswer::Refused(refusal) => refused_out(refusal),
+impl From<Result<LotSheet, Refusal>> for LotOutcome {
+    ghost from_gives = { λ answer out. out ≡ lot_out answer };
+
+    fn from(answer: Result<LotSheet, Refusal>) -> LotOutcome {
+        match answer {
+            Ok(sheet) => sheet_out(sheet),
+            Err(refusal) => refused_out(refusal),
+        }
     }
 }

@@ -12,8 +12,8 @@ use lib.IntN.{pos}
 use Rattle.arith.specs.declared.Ends.{Ends}
 use Rattle.refusal.specs.declared.Refusal.TheVariants.{LotSize}
 use Rattle.record.specs.declared.Record.{Record}
-use Rattle.lot.specs.declared.Running.{Running}
-use Rattle.lot.specs.declared.LotAnswer.TheVariants.{Refused}
+use Rattle.std.specs.Prelude.{Err, Result}
+use Rattle.lot.specs.declared.Tallies.{Tallies}
 use Rattle.lot.specs.Lot.{sheet_of, first_fault, most_records, on_fault, lot_answer}
 use Rattle.lot.specs.Kept.{running_from, nothing, joined_to, records_read, answer_by, finished_by}
 use Rattle.lot.specs.Room.{RoomyRun}
@@ -62,7 +62,7 @@ drop_all (suc m) [] = refl
 drop_all (suc m) (r ∷ rs) = drop_all m rs
 
 -- ---- what is kept where the records from i on have been read
-abbrev pub kept : List Record → ℕ → Running
+abbrev pub kept : List Record → ℕ → Result Tallies ℕ
 kept rs i = running_from i (drop i (take (records_read (length rs)) rs))
 
 pub kept-none : (rs : List Record) → nothing ≡ kept rs (records_read (length rs))
@@ -94,6 +94,6 @@ pub answer-is : (rs : List Record) → finished_by (length rs) (kept rs 0) ≡ l
 unfolding finished_by lot_answer
 answer-is rs = go (leb (length rs) most_records)
   where
-    go : (t : Bool) → cond t (answer_by (running_from 0 (take (cond t (length rs) 0) rs))) (Refused LotSize) ≡ cond t (on_fault (first_fault 0 rs) (sheet_of rs)) (Refused LotSize)
+    go : (t : Bool) → cond t (answer_by (running_from 0 (take (cond t (length rs) 0) rs))) (Err LotSize) ≡ cond t (on_fault (first_fault 0 rs) (sheet_of rs)) (Err LotSize)
     go true = rw (take-length rs) (answer-of-all rs)
     go false = refl

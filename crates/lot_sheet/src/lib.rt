@@ -5,17 +5,17 @@
 ghost use Rattle.std.specs.Prelude.{◌≡◌};
 ghost use Rattle.lot.specs.Lot.{lot_answer};
 
-use lot::LotAnswer;
+use lot::LotSheet;
 use record::Record;
+use refusal::Refusal;
 
 // Refusals 18 and 21, or the sheet of each gas.
-pub fn lot_sheet(records: &[Record]) -> LotAnswer
+pub fn lot_sheet(records: &[Record]) -> Result<LotSheet, Refusal>
     ensures { (result ≡ lot_answer records.now) × (records.exit.now ≡ records.entry.now) }
 {
-    let mut i = lot::records_read(records.len());
+    let read = lot::records_read(records.len());
     let mut running = lot::no_records();
-    while 0 < i {
-        i = i - 1;
+    for i in (0..read).rev() {
         running = lot::joined(i, records[i], running);
     }
     lot::finished(records.len(), running)

@@ -4,7 +4,7 @@
 ghost use Rattle.std.specs.Prelude.{◌≡◌};
 ghost use Rattle.outcome.specs.Outcome.{outcome_of};
 
-use refusal::Judged;
+use refusal::{Entry, Refusal};
 
 // A refusal's number and place, or zeros where all was accepted.
 #[repr(C)]
@@ -16,24 +16,25 @@ pub struct Outcome {
     pub side: u32,
 }
 
-pub fn outcome_of(judged: Judged) -> Outcome
-    ensures { result ≡ outcome_of judged }
-{
-    match judged {
-        Judged::Accepted => Outcome {
-            number: 0,
-            at: 0,
-            within: 0,
-            side: 0,
-        },
-        Judged::Refused(refusal) => {
-            let number = refusal::number_of(refusal);
-            let place = refusal::place_of(refusal);
-            Outcome {
-                number,
-                at: place.at,
-                within: place.within,
-                side: place.side,
+impl From<Result<(), Refusal>> for Outcome {
+    ghost from_gives = { λ judged o. o ≡ outcome_of judged };
+
+    fn from(judged: Result<(), Refusal>) -> Outcome {
+        match judged {
+            Ok(()) => Outcome {
+                number: 0,
+                at: 0,
+                within: 0,
+                side: 0,
+            },
+            Err(refusal) => {
+                let Entry { number, place } = Entry::from(refusal);
+                Outcome {
+                    number,
+                    at: place.at,
+                    within: place.within,
+                    side: place.side,
+                }
             }
         }
     }

@@ -5,8 +5,8 @@ use mathlib.Core.List.{List}
 use Prim.Native.Nat.{ℕ, ◌≤◌, ◌<◌}
 use native.Mathlib.Omega.{arith}
 use lib.ListN.{set}
-use Rattle.refusal.specs.declared.Judged.{Judged}
-use Rattle.refusal.specs.declared.Judged.TheVariants.{Accepted}
+use Rattle.std.specs.Prelude.{Ok}
+use Rattle.refusal.specs.Judging.{Judged, if_accepted}
 use Rattle.walk.proofs.Same.{in_turn-same, scan-same, scan_good}
 use Rattle.house.specs.House.{flags_at, speed_at, stop, acceleration, good_in}
 use Rattle.house.proofs.Versions.{good-second}
@@ -14,13 +14,12 @@ use Rattle.vehicle.specs.declared.VehicleSheet.{VehicleSheet}
 use Rattle.vehicle.specs.Sheet.{Sound}
 use Rattle.shift.specs.declared.Shift.{Shift}
 use Rattle.shift.specs.Speeds.{shift_of, Own}
+use Rattle.shift.proofs.Sides.{vehicle-worked}
 use Rattle.tenths.specs.declared.Tenths.{Tenths}
 use Rattle.tenths.specs.Least.{tenths_of}
 use Rattle.tenths.specs.Choice.{own_by_tenths, marked}
-use Rattle.tenths.proofs.Sizes.{vehicle-worked}
 use Rattle.tenths.proofs.Choosing.{own-by-tenths, never-close}
 use Rattle.tenths.proofs.Marks.{in_order_lem}
-use Rattle.refusal.specs.Judging.{if_accepted}
 use Rattle.own.specs.Own.{own_second, own_at, judge_own, judge_close, put_gears, put_own, gears_after, Ready}
 use Rattle.own.specs.ByTenths.{second_by_tenths, second_at, judge_marked}
 
@@ -60,11 +59,11 @@ module _ {v : VehicleSheet} (sound : Sound v) where
     unfolding judge_marked
     marked-same = go (marked t) (λ e. e)
       where
-        go : (m : Bool) → (m ≡ false → marked t ≡ false) → cond m (judge_own (second_at t trace) 0 n) Accepted ≡ judge_close (shift_of v) trace 0 n
+        go : (m : Bool) → (m ≡ false → marked t ≡ false) → cond m (judge_own (second_at t trace) 0 n) (Ok tt) ≡ judge_close (shift_of v) trace 0 n
         go true back = judge-same
         go false back = sym (scan_good _ _ _ 0 n (λ k l. ap not (second-called (back refl) k (omega arith)))) ∙ judge-same
 
 -- the list that the comparisons leave, where all are called
-pub called-gears : (s : Shift) (trace own : List ℕ) (n : ℕ) → judge_close s trace 0 n ≡ Accepted → gears_after s trace own n ≡ put_own s trace own n
+pub called-gears : (s : Shift) (trace own : List ℕ) (n : ℕ) → judge_close s trace 0 n ≡ Ok tt → gears_after s trace own n ≡ put_own s trace own n
 unfolding gears_after
 called-gears s trace own n e = ap (λ (j : Judged). if_accepted j (put_own s trace own n) own) e

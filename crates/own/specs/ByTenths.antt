@@ -1,7 +1,6 @@
 -- 02, M-106: the same by the vehicle's shift speeds in whole tenths, which is how the code goes about it. Seconds count from 0 here.
-use Rattle.std.specs.Prelude.{false, cond, List, ℕ}
-use Rattle.refusal.specs.declared.Judged.{Judged}
-use Rattle.refusal.specs.declared.Judged.TheVariants.{Accepted}
+use Rattle.std.specs.Prelude.{false, cond, List, ℕ, Ok}
+use Rattle.refusal.specs.Judging.{Judged}
 use Rattle.house.specs.House.{speed_at, flags_at, stop, acceleration}
 use Rattle.shift.specs.Speeds.{Own}
 use Rattle.tenths.specs.declared.Tenths.{Tenths}
@@ -16,4 +15,4 @@ second_at t trace k = second_by_tenths t (flags_at trace k) (speed_at trace k)
 
 -- where nothing is marked, no second is too close
 unfoldable pub judge_marked : Tenths → List ℕ → ℕ → Judged
-judge_marked t trace n = cond (marked t) (judge_own (second_at t trace) 0 n) Accepted
+judge_marked t trace n = cond (marked t) (judge_own (second_at t trace) 0 n) (Ok tt)

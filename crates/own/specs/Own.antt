@@ -1,9 +1,7 @@
 -- 01, Gear of each second, before corrections: the gears that the shift speeds give, and refusal 9. Seconds count from 0 here.
-use Rattle.std.specs.Prelude.{not, false, cond, List, ℕ, ◌+◌, ◌≤◌, ◌<◌, set}
-use Rattle.refusal.specs.declared.Judged.{Judged}
-use Rattle.refusal.specs.declared.Judged.TheVariants.{Accepted, Refused}
+use Rattle.std.specs.Prelude.{not, false, cond, List, ℕ, ◌+◌, ◌≤◌, ◌<◌, set, Ok, Err}
+use Rattle.refusal.specs.Judging.{Judged, if_accepted}
 use Rattle.refusal.specs.declared.Refusal.TheVariants.{TooClose}
-use Rattle.refusal.specs.Judging.{if_accepted}
 use Rattle.walk.specs.Walk.{in_turn, scan}
 use Rattle.house.specs.House.{Lasts, speed_at, flags_at, stop, acceleration}
 use Rattle.shift.specs.declared.Shift.{Shift}
@@ -18,7 +16,7 @@ own_at s trace k = own_second s (flags_at trace k) (speed_at trace k)
 
 -- 9: "Too close in any comparison .. refuses the trace", the first such of the n seconds from k on
 abbrev pub judge_own : (ℕ → Own) → ℕ → ℕ → Judged
-judge_own own = scan (λ k. not (own k).close) (λ k. Refused (TooClose (k + 1))) (λ k. Accepted)
+judge_own own = scan (λ k. not (own k).close) (λ k. Err (TooClose (k + 1))) (λ k. Ok tt)
 
 abbrev pub judge_close : Shift → List ℕ → ℕ → ℕ → Judged
 judge_close s trace = judge_own (own_at s trace)

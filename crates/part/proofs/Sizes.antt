@@ -6,10 +6,12 @@ use native.Mathlib.Omega.{arith}
 use Rattle.arith.specs.declared.Ends.{Ends}
 use Rattle.arith.specs.Fitting.{Sized}
 use Rattle.arith.proofs.Size.{wider-size}
-use Rattle.reading.specs.Gas.{Gas, HC, CO, NOx, CO2, NMHC, is_nox, is_nmhc}
-use Rattle.reading.proofs.Gas.{by-gas}
+use Rattle.refusal.specs.declared.Gas.{Gas}
+use Rattle.refusal.specs.declared.Gas.TheVariants.{HC, CO, NOx, CO2, NMHC}
+use Rattle.bag.specs.Gas.{is_nox, is_nmhc}
 use Rattle.bag.specs.declared.Part.{Part}
 use Rattle.bag.specs.declared.Triple.{Triple}
+use Rattle.bag.proofs.Gas.{by-gas}
 use Rattle.stage.specs.Part.{q_of, concentration_of, nox_mass_of}
 use Rattle.stage.specs.Ranges.{VolumeRanges, GRanges, KhRanges}
 use Rattle.stage.specs.Ranges.{largest_signed, largest_concentration, largest_mass, largest_kh}

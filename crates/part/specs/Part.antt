@@ -1,7 +1,7 @@
 -- One part of a test (01, Bag sheet and figures): its readings, and from them and its fields the volume, and each gas's mass and rate.
 use Rattle.std.specs.Prelude.{Bool, cond, ℕ}
 use Rattle.arith.specs.declared.Ends.{Ends}
-use Rattle.reading.specs.Gas.{is_nox, is_nmhc}
+use Rattle.bag.specs.Gas.{is_nox, is_nmhc}
 use Rattle.bag.specs.Sheet.{density_at}
 use Rattle.bag.specs.declared.Part.{Part}
 use Rattle.bag.specs.declared.Triple.{Triple}

@@ -44,18 +44,8 @@ fn with_nmhc(c: Cutter, read: Gases) -> Gases
     requires { StagedRanges c read }
     ensures { result ≡ with_nmhc c read }
 {
-    let hc = read.hc;
-    let co = read.co;
-    let nox = read.nox;
-    let co2 = read.co2;
-    let nmhc = cutter::nmhc(c, hc, read.nmhc);
-    Gases {
-        hc,
-        co,
-        nox,
-        co2,
-        nmhc,
-    }
+    let nmhc = cutter::nmhc(c, read.hc, read.nmhc);
+    Gases { nmhc, ..read }
 }
 
 #[tactic(auto, unfolding(crate::specs::Part::staged_of))]
@@ -83,14 +73,12 @@ fn masses(volume: Ends, sides: Sides, g: Ends, q: u32, density: Densities) -> Ga
     requires { MassesRanges volume sides g q density }
     ensures { result ≡ masses_of volume sides g q density }
 {
-    let bag = sides.bag;
-    let air = sides.air;
     Gases {
-        hc: gas_mass(volume, bag.hc, air.hc, g, q, density.hc),
-        co: gas_mass(volume, bag.co, air.co, g, q, density.co),
-        nox: gas_mass(volume, bag.nox, air.nox, g, q, density.nox),
-        co2: gas_mass(volume, bag.co2, air.co2, g, q, density.co2),
-        nmhc: gas_mass(volume, bag.nmhc, air.nmhc, g, q, density.nmhc),
+        hc: gas_mass(volume, sides.bag.hc, sides.air.hc, g, q, density.hc),
+        co: gas_mass(volume, sides.bag.co, sides.air.co, g, q, density.co),
+        nox: gas_mass(volume, sides.bag.nox, sides.air.nox, g, q, density.nox),
+        co2: gas_mass(volume, sides.bag.co2, sides.air.co2, g, q, density.co2),
+        nmhc: gas_mass(volume, sides.bag.nmhc, sides.air.nmhc, g, q, density.nmhc),
     }
 }
 
@@ -100,18 +88,8 @@ fn corrected_for(kh: Ends, mass: Gases) -> Gases
     requires { (DryMassSizes mass) × (Sized largest_kh kh) }
     ensures { result ≡ corrected_for kh mass }
 {
-    let hc = mass.hc;
-    let co = mass.co;
-    let co2 = mass.co2;
-    let nmhc = mass.nmhc;
     let nox = stage::nox_mass(mass.nox, kh);
-    Gases {
-        hc,
-        co,
-        nox,
-        co2,
-        nmhc,
-    }
+    Gases { nox, ..mass }
 }
 
 #[tactic(auto, unfolding(sides::specs::Gases::each, crate::specs::Part::rates_of))]

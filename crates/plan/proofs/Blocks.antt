@@ -7,9 +7,8 @@ use native.Mathlib.Omega.{arith}
 use lib.Dec.{eqb}
 use Rattle.walk.specs.Walk.{in_turn}
 use Rattle.walk.proofs.Same.{in_turn-same}
-use Rattle.refusal.specs.declared.Judged.{Judged}
-use Rattle.refusal.specs.declared.Judged.TheVariants.{Accepted, Refused}
-use Rattle.refusal.specs.Judging.{if_accepted}
+use Rattle.std.specs.Prelude.{Ok, Err}
+use Rattle.refusal.specs.Judging.{Judged, if_accepted}
 use Rattle.vehicle.specs.declared.VehicleSheet.{VehicleSheet}
 use Rattle.gear.specs.Sheet.{row_of}
 use Rattle.lanes.specs.Lanes.{lane_at}
@@ -30,12 +29,12 @@ module _ (trace sheets tables lanes lanes₀ : List ℕ) (n from : ℕ) (done : 
   lane-step : (j : ℕ) → j < 16 → (v : VehicleSheet) (answer : Judged) → Lane v answer tables j → (rows : List ℕ)
       → cond (eqb (lane_at tables j 17) 1) (with_part rows (2 * n * from + 2 * n * j) (2 * n) (lane_row lanes j n)) rows
       ≡ if_accepted answer (with_part rows (2 * n * (from + j)) (2 * n) (row_of v trace n)) rows
-  lane-step j few v Accepted lane rows =
+  lane-step j few v (Ok _) lane rows =
       let place : 2 * n * from + 2 * n * j ≡ 2 * n * (from + j) = omega arith in
       let row = done.lane j few v (lane.table refl) in
       ap (λ (flag : ℕ). cond (eqb flag 1) (with_part rows (2 * n * from + 2 * n * j) (2 * n) (lane_row lanes j n)) rows) lane.flag
       ∙ (λ i. with_part rows (place i) (2 * n) (row i))
-  lane-step j few v (Refused refusal) lane rows =
+  lane-step j few v (Err refusal) lane rows =
       ap (λ (flag : ℕ). cond (eqb flag 1) (with_part rows (2 * n * from + 2 * n * j) (2 * n) (lane_row lanes j n)) rows) lane.flag
 
   pub parts_are : (few at : ℕ) → few ≤ 16 → at ≡ 2 * n * from → Lanes trace sheets n from tables few → (rows : List ℕ)

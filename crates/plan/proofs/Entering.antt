@@ -10,8 +10,8 @@ use lib.Dec.{eqb, ltb}
 use lib.ListN.{length, get_or, set, length-set}
 use lib.Seq.{get_or-set_same, get_or-set_other}
 use Rattle.walk.proofs.Stores.{Storing, stores-length, not-stored, stored}
-use Rattle.refusal.specs.declared.Judged.{Judged}
-use Rattle.refusal.specs.declared.Judged.TheVariants.{Accepted, Refused}
+use Rattle.std.specs.Prelude.{Ok, Err}
+use Rattle.refusal.specs.Judging.{Judged}
 use Rattle.refusal.specs.declared.Refusal.{Refusal}
 use Rattle.refusal.proofs.Judging.{refused-not}
 use Rattle.vehicle.specs.declared.VehicleSheet.{VehicleSheet}
@@ -32,7 +32,7 @@ module _ (tables : List ℕ) (j : ℕ) (few : j < 16) (room : 288 ≤ length tab
   unset-other : (h i : ℕ) → h < 16 → (h ≡ j → ⊥) → lane_at unset h i ≡ lane_at tables h i
   unset-other h i l apart = get_or-set_other tables (16 * 17 + j) (16 * i + h) 0 0 (λ e. apart (omega arith))
 
-  pub entered-refused : (v : VehicleSheet) (refusal : Refusal) → Entered v (Refused refusal) tables unset j
+  pub entered-refused : (v : VehicleSheet) (refusal : Refusal) → Entered v (Err refusal) tables unset j
   entered-refused v refusal = record {
     long = length-set tables (16 * 17 + j) 0;
     others = unset-other;
@@ -97,7 +97,7 @@ module _ (tables : List ℕ) (j : ℕ) (few : j < 16) (room : 288 ≤ length tab
     unfolding table_at
     first-is = full_at 8 (omega arith)
 
-    pub entered-accepted : Entered v Accepted tables full j
+    pub entered-accepted : Entered v (Ok tt) tables full j
     entered-accepted = record {
       long = full-long;
       others = full-other;

@@ -6,9 +6,8 @@ use native.Mathlib.Decide.{dec_lt}
 use native.Mathlib.Omega.{arith}
 use lib.ListN.{length, get_or, set, take, drop, length-set, length-drop, take-append-drop}
 use lib.Seq.{drop-drop, drop_at, take_at, drop-append-le, take-append-le, drop-append-add, length-take-le, get_or-set_same, get_or-set_other}
-use Rattle.refusal.specs.declared.Judged.{Judged}
-use Rattle.refusal.specs.declared.Judged.TheVariants.{Accepted, Refused}
-use Rattle.refusal.specs.Judging.{if_accepted}
+use Rattle.std.specs.Prelude.{Ok, Err}
+use Rattle.refusal.specs.Judging.{Judged, if_accepted}
 use Rattle.house.specs.House.{count_of}
 use Rattle.trace.specs.Judging.{judge_trace}
 use Rattle.gear.specs.Sheet.{row_of}
@@ -59,7 +58,7 @@ module _ (rows row : List ℕ) (at width : ℕ) (long : length row ≡ width) (f
       ∙ ap (λ (b : ℕ). drop b rows) back
 
 -- ---- the rows of all vehicles
-module _ (trace : List ℕ) (accepted : judge_trace trace ≡ Accepted) (sheets : List ℕ) where
+module _ (trace : List ℕ) (accepted : judge_trace trace ≡ Ok tt) (sheets : List ℕ) where
   abbrev n : ℕ
   n = count_of trace
 
@@ -77,8 +76,8 @@ module _ (trace : List ℕ) (accepted : judge_trace trace ≡ Accepted) (sheets 
   step rows i = if_accepted (answer i) (with_part rows (width * i) width (row_at i)) rows
 
   if-same : {A : Type 0} (f : List ℕ → A) (j : Judged) (a b : List ℕ) → f a ≡ f b → f (if_accepted j a b) ≡ f b
-  if-same f Accepted a b e = e
-  if-same f (Refused refusal) a b e = refl
+  if-same f (Ok _) a b e = e
+  if-same f (Err refusal) a b e = refl
 
   step-behind : (rows : List ℕ) (m b : ℕ) → width * m + width ≤ length rows → width * m + width ≤ b → drop b (step rows m) ≡ drop b rows
   step-behind rows m b fits h =
@@ -101,8 +100,8 @@ module _ (trace : List ℕ) (accepted : judge_trace trace ≡ Accepted) (sheets 
   step-own rows m fits = go (answer m)
     where
       go : (j : Judged) → part_at width m (if_accepted j (with_part rows (width * m) width (row_at m)) rows) ≡ if_accepted j (row_at m) (part_at width m rows)
-      go Accepted = written rows (row_at m) (width * m) width (row-long (sheet_at sheets m) trace n) fits
-      go (Refused refusal) = refl
+      go (Ok _) = written rows (row_at m) (width * m) width (row-long (sheet_at sheets m) trace n) fits
+      go (Err refusal) = refl
 
   -- all of the first m
   module _ (rows : List ℕ) where

@@ -9,11 +9,10 @@ use lib.Dec.{eqb, leb}
 use lib.ListN.{length, take, length-append, length-drop}
 use lib.Seq.{drop-drop, length-take-le}
 use Rattle.walk.proofs.Same.{in_turn-same}
-use Rattle.refusal.specs.declared.Judged.{Judged}
-use Rattle.refusal.specs.declared.Judged.TheVariants.{Accepted, Refused}
+use Rattle.std.specs.Prelude.{Ok, Err}
+use Rattle.refusal.specs.Judging.{Judged, checked, and_then, if_accepted}
 use Rattle.refusal.specs.declared.Refusal.{Refusal}
 use Rattle.refusal.specs.declared.Refusal.TheVariants.{Room}
-use Rattle.refusal.specs.Judging.{checked, and_then, if_accepted}
 use Rattle.refusal.proofs.Judging.{checked-holds, then-holds}
 use Rattle.refusal.proofs.Ranges.{both}
 use Rattle.house.specs.House.{count_of}
@@ -35,9 +34,9 @@ use Rattle.plan.specs.Plan.{sheet_at, vehicles_in, row_bytes, judge_plan, with_a
 use Rattle.plan.specs.Lanes.{vehicle_answer, with_part, Planned, rows_up_to, answers_up_to}
 use Rattle.plan.proofs.Places.{next_place, places-rise}
 
-then-accepted : (j : Judged) → and_then j Accepted ≡ j
-then-accepted Accepted = refl
-then-accepted (Refused refusal) = refl
+then-accepted : (j : Judged) → and_then j (Ok tt) ≡ j
+then-accepted (Ok _) = refl
+then-accepted (Err refusal) = refl
 
 pub row-long : (v : VehicleSheet) (trace : List ℕ) (n : ℕ) → length (row_of v trace n) ≡ 2 * n
 unfolding row_of
@@ -52,10 +51,10 @@ part-long rows row at width long fits =
     simp (length-append, length-drop) (omega arith)
 
 if-long : (j : Judged) (a b : List ℕ) (n : ℕ) → length a ≡ n → length b ≡ n → length (if_accepted j a b) ≡ n
-if-long Accepted a b n p q = p
-if-long (Refused refusal) a b n p q = q
+if-long (Ok _) a b n p q = p
+if-long (Err refusal) a b n p q = q
 
-module _ (trace : List ℕ) (accepted : judge_trace trace ≡ Accepted) where
+module _ (trace : List ℕ) (accepted : judge_trace trace ≡ Ok tt) where
   abbrev n : ℕ
   n = count_of trace
 
@@ -65,7 +64,7 @@ module _ (trace : List ℕ) (accepted : judge_trace trace ≡ Accepted) where
   answer-is v room start fits =
       let from : leb start room ≡ true = le-leb start room (omega arith) in
       let long : leb (2 * n) (room - start) ≡ true = le-leb (2 * n) (room - start) (omega arith) in
-      let roomy : judge_room n room start ≡ Accepted = (λ i. checked (from i && long i) Room Accepted) in
+      let roomy : judge_room n room start ≡ Ok tt = (λ i. checked (from i && long i) Room (Ok tt)) in
       let marks = marks_by v trace n in
       ap (λ (j : Judged). and_then (and_then j (and_then (judge_vehicle v) (and_then marks (judge_room n room start)))) (judge_close (shift_of v) trace 0 n)) accepted
       ∙ ap (λ (j : Judged). and_then (and_then (judge_vehicle v) (and_then marks j)) (judge_close (shift_of v) trace 0 n)) roomy
@@ -112,8 +111,8 @@ module _ (trace sheets rows answers : List ℕ) where
   abbrev judged : Judged
   judged = judge_plan trace (length sheets) (length rows) (length answers)
 
-  module _ (accepted : judged ≡ Accepted) where
-    pub trace-accepted : judge_trace trace ≡ Accepted
+  module _ (accepted : judged ≡ Ok tt) where
+    pub trace-accepted : judge_trace trace ≡ Ok tt
     unfolding judge_plan
     trace-accepted = (then-holds (judge_trace trace) (plan.judge_room (row_bytes trace) (length sheets) (length rows) (length answers)) accepted).0
 
@@ -124,7 +123,7 @@ module _ (trace sheets rows answers : List ℕ) where
         let whole = eqb (length sheets % 14) 0 in
         let in_rows = leb (row_bytes trace * vehicles_in (length sheets)) (length rows) in
         let in_answers = leb (2 * vehicles_in (length sheets)) (length answers) in
-        let holds = both (whole && in_rows) in_answers (checked-holds (whole && in_rows && in_answers) Room Accepted last).0 in
+        let holds = both (whole && in_rows) in_answers (checked-holds (whole && in_rows && in_answers) Room (Ok tt) last).0 in
         (leb-true _ _ (both whole in_rows holds.0).1, leb-true _ _ holds.1)
 
     pub planned : Planned trace (length sheets) (count_of trace) (length rows) (length answers)
@@ -148,7 +147,7 @@ module _ (trace sheets rows answers : List ℕ) where
         answers-are trace trace-accepted sheets (length rows) answers (vehicles_in (length sheets)) room-tells.0
         ∙ sym (ap (λ (j : Judged). if_accepted j (answers_to trace sheets (length rows) answers (vehicles_in (length sheets))) answers) accepted)
 
-  module _ (refusal : Refusal) (refused : judged ≡ Refused refusal) where
+  module _ (refusal : Refusal) (refused : judged ≡ Err refusal) where
     pub rows_stay : rows ≡ plan_rows trace sheets rows answers
     unfolding plan_rows
     rows_stay = sym (ap (λ (j : Judged). if_accepted j (rows_to trace sheets rows (vehicles_in (length sheets))) rows) refused)

@@ -1,9 +1,7 @@
 -- Sixteen of the vehicles beside each other: what the code works with on the way. Lanes and lines count from 0 here.
-use Rattle.std.specs.Prelude.{ℕ, ◌+◌, ◌-◌, ◌*◌, ◌/◌, ◌%◌, ◌<◌, ◌≤◌, ◌≡◌, cond, List, ◌++◌, eqb, ltb, length, get_or, set, take, drop}
+use Rattle.std.specs.Prelude.{ℕ, ◌+◌, ◌-◌, ◌*◌, ◌/◌, ◌%◌, ◌<◌, ◌≤◌, ◌≡◌, cond, List, ◌++◌, eqb, ltb, length, get_or, set, take, drop, Ok, Err}
 use Rattle.walk.specs.Walk.{in_turn, pairs}
-use Rattle.refusal.specs.declared.Judged.{Judged}
-use Rattle.refusal.specs.declared.Judged.TheVariants.{Accepted, Refused}
-use Rattle.refusal.specs.Judging.{and_then, if_accepted}
+use Rattle.refusal.specs.Judging.{Judged, and_then, if_accepted}
 use Rattle.house.specs.House.{Lasts, speed_at}
 use Rattle.trace.specs.Judging.{judge_marks}
 use Rattle.vehicle.specs.declared.VehicleSheet.{VehicleSheet}
@@ -26,7 +24,7 @@ pub record Read (trace : List ℕ) (n : ℕ) : Type 0 where
 
 -- 5 to 7 and 20, by what is wrong with the trace's marks; and with 9, what is refused of a vehicle
 abbrev pub sheet_answer : VehicleSheet → Judged → Judged
-sheet_answer v marks = and_then (judge_vehicle v) (cond (eqb v.rules 2) marks Accepted)
+sheet_answer v marks = and_then (judge_vehicle v) (cond (eqb v.rules 2) marks (Ok tt))
 
 unfoldable pub vehicle_answer : List ℕ → VehicleSheet → ℕ → Judged
 vehicle_answer trace v n = and_then (sheet_answer v (judge_marks trace 0 n)) (judge_close (shift_of v) trace 0 n)
@@ -44,8 +42,8 @@ with_table v t j tables n = in_turn (λ tables i. set tables (16 * i + j) (table
 
 -- 1 for an accepted vehicle, 0 for a refused one
 abbrev pub flag_of : Judged → ℕ
-flag_of Accepted = 1
-flag_of (Refused refusal) = 0
+flag_of (Ok _) = 1
+flag_of (Err refusal) = 0
 
 -- a vehicle in its lane
 pub record Tabled (v : VehicleSheet) (tables : List ℕ) (j : ℕ) : Type 0 where
@@ -55,7 +53,7 @@ pub record Tabled (v : VehicleSheet) (tables : List ℕ) (j : ℕ) : Type 0 wher
 
 pub record Lane (v : VehicleSheet) (answer : Judged) (tables : List ℕ) (j : ℕ) : Type 0 where
   pub flag : lane_at tables j 17 ≡ flag_of answer
-  pub table : answer ≡ Accepted → Tabled v tables j
+  pub table : answer ≡ Ok tt → Tabled v tables j
 
 -- one lane is put, and no other is changed
 pub record Entered (v : VehicleSheet) (answer : Judged) (tables tables' : List ℕ) (j : ℕ) : Type 0 where

@@ -1,10 +1,8 @@
 -- One trace, many vehicles: what the gear sheet gives for each vehicle by itself. Vehicles count from 0 here.
-use Rattle.std.specs.Prelude.{ℕ, ◌+◌, ◌*◌, ◌/◌, ◌%◌, ◌&&◌, List, [], ◌∷◌, eqb, leb, length, get_or, set}
+use Rattle.std.specs.Prelude.{ℕ, ◌+◌, ◌*◌, ◌/◌, ◌%◌, ◌&&◌, List, [], ◌∷◌, eqb, leb, length, get_or, set, Ok}
 use Rattle.walk.specs.Walk.{in_turn}
-use Rattle.refusal.specs.declared.Judged.{Judged}
-use Rattle.refusal.specs.declared.Judged.TheVariants.{Accepted}
+use Rattle.refusal.specs.Judging.{Judged, checked, and_then, if_accepted}
 use Rattle.refusal.specs.declared.Refusal.TheVariants.{Room}
-use Rattle.refusal.specs.Judging.{checked, and_then, if_accepted}
 use Rattle.house.specs.House.{count_of}
 use Rattle.trace.specs.Judging.{judge_trace}
 use Rattle.vehicle.specs.declared.VehicleSheet.{VehicleSheet}
@@ -37,7 +35,7 @@ row_bytes trace = 2 * count_of trace
 -- 8: a list of sheets that ends within one, or rows or answers that are too small
 unfoldable pub judge_room : ℕ → ℕ → ℕ → ℕ → Judged
 judge_room width sheets rows answers =
-    checked (eqb (sheets % 14) 0 && leb (width * vehicles_in sheets) rows && leb (2 * vehicles_in sheets) answers) Room Accepted
+    checked (eqb (sheets % 14) 0 && leb (width * vehicles_in sheets) rows && leb (2 * vehicles_in sheets) answers) Room (Ok tt)
 
 -- the whole call: 1 to 4, and 8
 unfoldable pub judge_plan : List ℕ → ℕ → ℕ → ℕ → Judged

@@ -10,8 +10,8 @@ use lib.ListN.{length, get_or, drop}
 use lib.Seq.{take_at}
 use Rattle.refusal.specs.declared.Refusal.{Refusal}
 use Rattle.refusal.specs.declared.Refusal.TheVariants.{Count}
-use Rattle.refusal.specs.declared.Judged.{Judged}
-use Rattle.refusal.specs.declared.Judged.TheVariants.{Accepted, Refused}
+use Rattle.std.specs.Prelude.{Ok, Err}
+use Rattle.refusal.specs.Judging.{Judged}
 use Rattle.refusal.proofs.Judging.{checked-holds, refused-not}
 use Rattle.walk.proofs.Walk.{pairs-length}
 use Rattle.house.specs.House.{speed_at, flags_at, zero_at, good_in}
@@ -60,63 +60,63 @@ module _ (version : ℕ) {v : VehicleSheet} (sound : Sound v) (trace : List ℕ)
   said_of k = judge_second (engine_at k) (received_at trace k)
 
   abbrev pub running : ℕ → Run
-  running k = record { judged = Accepted; engine = engine_at k; bytes = given_to v own trace k }
+  running k = record { judged = Ok tt; engine = engine_at k; bytes = given_to v own trace k }
 
   abbrev pub stopped : ℕ → Refusal → Run
-  stopped k refusal = record { judged = Refused refusal; engine = engine_at k; bytes = given_to v own trace k }
+  stopped k refusal = record { judged = Err refusal; engine = engine_at k; bytes = given_to v own trace k }
 
   -- after n seconds it runs, or second k has ended it
   pub data Fate (n : ℕ) : Run → Type 0 where
-    runs : ((i : ℕ) → i < n → said_of i ≡ Accepted) → Fate n (running n)
-    ends : (k : ℕ) (refusal : Refusal) → k < n → ((i : ℕ) → i < k → said_of i ≡ Accepted) → said_of k ≡ Refused refusal → Fate n (stopped k refusal)
+    runs : ((i : ℕ) → i < n → said_of i ≡ Ok tt) → Fate n (running n)
+    ends : (k : ℕ) (refusal : Refusal) → k < n → ((i : ℕ) → i < k → said_of i ≡ Ok tt) → said_of k ≡ Err refusal → Fate n (stopped k refusal)
 
   -- an accepted second has the gear of the ends
-  gear-is : (k : ℕ) → said_of k ≡ Accepted → (own_of (engine_at k) (received_at trace k)).gear ≡ own k
+  gear-is : (k : ℕ) → said_of k ≡ Ok tt → (own_of (engine_at k) (received_at trace k)).gear ≡ own k
   unfolding judge_second
   gear-is k e =
       let counted = checked-holds (ltb (state_at own trace k).received 2000) Count _ e in
       let good = (checked-holds (good_in version (speed_at trace k) (flags_at trace k) (zero_at trace k)) _ _ counted.1).0 in
       ap (λ (o : Own). o.gear) (good-by-tenths sound version (flags_at trace k) (speed_at trace k) (zero_at trace k) good)
 
-  next-runs : (k : ℕ) → said_of k ≡ Accepted → go_on Accepted (running k) (received_at trace k) ≡ running (suc k)
+  next-runs : (k : ℕ) → said_of k ≡ Ok tt → go_on (Ok tt) (running k) (received_at trace k) ≡ running (suc k)
   unfolding heard given_to
   next-runs k e =
       let gear = gear-is k e in
       let given_is = given-bytes v (state_at own trace k) (flags_at trace k) in
       ap (λ (j : Judged). let h = heard_by j (engine_at k) (received_at trace k) in record { judged = h.judged; engine = h.engine; bytes = given_to v own trace k ++ bytes_of h.given }) e
       ∙ (λ i. record {
-        judged = Accepted;
+        judged = Ok tt;
         engine = record { version = version; v = v; tenths = tenths_of (shift_of v); live = step (state_at own trace k) (speed_at trace k) (flags_at trace k) (gear i) };
         bytes = given_to v own trace k ++ given_is i;
       })
 
-  next-ends : (k : ℕ) (refusal : Refusal) → said_of k ≡ Refused refusal → go_on Accepted (running k) (received_at trace k) ≡ stopped k refusal
+  next-ends : (k : ℕ) (refusal : Refusal) → said_of k ≡ Err refusal → go_on (Ok tt) (running k) (received_at trace k) ≡ stopped k refusal
   unfolding heard
   next-ends k refusal e =
       ap (λ (j : Judged). let h = heard_by j (engine_at k) (received_at trace k) in record { judged = h.judged; engine = h.engine; bytes = given_to v own trace k ++ bytes_of h.given }) e
-      ∙ (λ i. record { judged = Refused refusal; engine = engine_at k; bytes = append-nil (given_to v own trace k) i })
+      ∙ (λ i. record { judged = Err refusal; engine = engine_at k; bytes = append-nil (given_to v own trace k) i })
 
   pub fate : (n : ℕ) → Fate n (run_to (begun version v) trace n)
   unfolding run_to given_to
   fate zero = runs (λ i l. absurd (let z : ⊥ = omega arith in z))
   fate (suc n) = go (run_to (begun version v) trace n) (fate n)
     where
-      further : ((i : ℕ) → i < n → said_of i ≡ Accepted) → (j : Judged) → said_of n ≡ j → Fate (suc n) (go_on Accepted (running n) (received_at trace n))
-      further all Accepted e = subst (Fate (suc n)) (sym (next-runs n e)) (runs (λ i l. each i l (dec_lt i n)))
+      further : ((i : ℕ) → i < n → said_of i ≡ Ok tt) → (j : Judged) → said_of n ≡ j → Fate (suc n) (go_on (Ok tt) (running n) (received_at trace n))
+      further all (Ok _) e = subst (Fate (suc n)) (sym (next-runs n e)) (runs (λ i l. each i l (dec_lt i n)))
         where
-          each : (i : ℕ) → i < suc n → Dec (i < n) → said_of i ≡ Accepted
+          each : (i : ℕ) → i < suc n → Dec (i < n) → said_of i ≡ Ok tt
           each i l (yes below) = all i below
           each i l (no above) =
               let same : i ≡ n = omega arith in
               ap said_of same ∙ e
-      further all (Refused refusal) e = subst (Fate (suc n)) (sym (next-ends n refusal e)) (ends n refusal (omega arith) all e)
+      further all (Err refusal) e = subst (Fate (suc n)) (sym (next-ends n refusal e)) (ends n refusal (omega arith) all e)
 
       go : (r : Run) → Fate n r → Fate (suc n) (go_on r.judged r (received_at trace n))
       go r (runs all) = further all (said_of n) refl
       go r (ends k refusal l all e) = ends k refusal (omega arith) all e
 
   -- seconds of which each is accepted
-  pub runs_on : (n : ℕ) → ((i : ℕ) → i < n → said_of i ≡ Accepted) → run_to (begun version v) trace n ≡ running n
+  pub runs_on : (n : ℕ) → ((i : ℕ) → i < n → said_of i ≡ Ok tt) → run_to (begun version v) trace n ≡ running n
   runs_on n good = go (run_to (begun version v) trace n) (fate n)
     where
       go : (r : Run) → Fate n r → r ≡ running n
@@ -124,7 +124,7 @@ module _ (version : ℕ) {v : VehicleSheet} (sound : Sound v) (trace : List ℕ)
       go r (ends k refusal l all e) = absurd (refused-not (sym e ∙ good k l))
 
   -- and the first that is not
-  pub ends_at : (k : ℕ) (refusal : Refusal) → ((i : ℕ) → i < k → said_of i ≡ Accepted) → said_of k ≡ Refused refusal
+  pub ends_at : (k : ℕ) (refusal : Refusal) → ((i : ℕ) → i < k → said_of i ≡ Ok tt) → said_of k ≡ Err refusal
       → run_to (begun version v) trace (suc k) ≡ stopped k refusal
   unfolding run_to
   ends_at k refusal good e = ap (λ (r : Run). go_on r.judged r (received_at trace k)) (runs_on k good) ∙ next-ends k refusal e

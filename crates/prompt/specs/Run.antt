@@ -1,7 +1,6 @@
 -- The seconds of a trace heard one after the other (02, M-110): the engine, what was refused, and all that has been given. A refusal ends it.
-use Rattle.std.specs.Prelude.{List, [], ◌++◌, ℕ, zero, suc, ◌*◌, take}
-use Rattle.refusal.specs.declared.Judged.{Judged}
-use Rattle.refusal.specs.declared.Judged.TheVariants.{Accepted, Refused}
+use Rattle.std.specs.Prelude.{List, [], ◌++◌, ℕ, zero, suc, ◌*◌, take, Ok, Err}
+use Rattle.refusal.specs.Judging.{Judged}
 use Rattle.house.specs.House.{speed_at, flags_at, zero_at}
 use Rattle.live.specs.declared.Given.{Given}
 use Rattle.prompt.specs.declared.Engine.{Engine}
@@ -22,12 +21,12 @@ bytes_of g = take (2 * g.count) g.bytes
 
 -- "After a refusal it gives nothing more"
 abbrev pub go_on : Judged → Run → Received → Run
-go_on Accepted r s = record { judged = (heard r.engine s).judged; engine = (heard r.engine s).engine; bytes = r.bytes ++ bytes_of (heard r.engine s).given }
-go_on (Refused refusal) r s = r
+go_on (Ok _) r s = record { judged = (heard r.engine s).judged; engine = (heard r.engine s).engine; bytes = r.bytes ++ bytes_of (heard r.engine s).given }
+go_on (Err refusal) r s = r
 
 -- the first n seconds of a trace
 unfoldable pub run_to : Engine → List ℕ → ℕ → Run
-run_to e trace zero = record { judged = Accepted; engine = e; bytes = [] }
+run_to e trace zero = record { judged = Ok tt; engine = e; bytes = [] }
 run_to e trace (suc n) = let r = run_to e trace n in go_on r.judged r (received_at trace n)
 
 -- and the end

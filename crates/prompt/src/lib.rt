@@ -2,15 +2,14 @@
 // ended.
 #![tactic(auto)]
 
-ghost use Rattle.std.specs.Prelude.{◌≡◌};
-ghost use Rattle.refusal.specs.declared.Judged.TheVariants.{Accepted};
-ghost use Rattle.vehicle.specs.Sheet.{judge_vehicle};
-ghost use Rattle.prompt.specs.Prompt.{judge_begin, begun, may_be, judge_second, after, heard, ended};
+ghost use Rattle.std.specs.Prelude.{◌≡◌, Ok};
+ghost use Rattle.vehicle.specs.Accepted.{Accepted};
+ghost use Rattle.prompt.specs.Prompt.{judge_begin, begun, may_be, judge_second, after, heard, ended, answer_by};
 
 use live::{Given, Live};
-use refusal::{Judged, Refusal};
+use refusal::Refusal;
 use tenths::Tenths;
-use vehicle::VehicleSheet;
+use vehicle::{Vehicle, VehicleSheet};
 
 // What is kept: the version that the trace was named with, the vehicle and its shift speeds in whole tenths, and the seconds so far.
 #[repr(C)]
@@ -31,129 +30,85 @@ pub struct Received {
     pub fourth: u8,
 }
 
-// What the call of a second answers.
-#[derive(Clone, Copy)]
-pub struct Heard {
-    pub judged: Judged,
-    pub engine: Engine,
-    pub given: Given,
-}
-
-// What the end answers.
-#[derive(Clone, Copy)]
-pub struct Ended {
-    pub judged: Judged,
-    pub given: Given,
-}
-
-// Refusals 1 and 5 to 7.
+// Refusals 1 and 5 to 7, or the vehicle.
 #[tactic(auto, unfolding(crate::specs::Prompt::judge_begin))]
-pub fn judge_begin(version: u32, v: VehicleSheet) -> Judged
-    ensures { result ≡ judge_begin version v }
+pub fn read(version: u32, v: VehicleSheet) -> Result<Vehicle, Refusal>
+    ensures { Accepted v (judge_begin version v) result }
 {
     if !house::is_readable(version as usize) {
-        return Judged::Refused(Refusal::Header);
+        return Err(Refusal::Header);
     }
-    vehicle::judge(v)
+    vehicle::read(v)
 }
 
-// An engine for a vehicle that is taken.
-pub fn begin(version: u32, v: VehicleSheet) -> Engine
-    requires { judge_vehicle v ≡ Accepted }
-    ensures { result ≡ begun version v }
+// An engine for a vehicle.
+pub fn begin(version: u32, v: Vehicle) -> Engine
+    ensures { result ≡ begun version v.sheet }
 {
     Engine {
         version,
-        v,
+        v: v.sheet,
         tenths: tenths::of_vehicle(v),
         live: live::fresh(),
     }
 }
 
 // What refusal 20 asks of a second.
-fn may_be(e: Engine, s: Received) -> bool
-    ensures { result ≡ may_be e s }
+fn may_be(e: &Engine, s: Received) -> bool
+    ensures { result ≡ may_be e.now s }
 {
-    let v = e.v;
     let marked = house::marked_in(e.version as usize, s.flags);
-    !((v.rules == 2) & marked)
+    !((e.v.rules == 2) & marked)
 }
 
 // Refusals 2, 4, 20 and 9.
 #[tactic(auto, unfolding(crate::specs::Prompt::judge_second))]
-fn judge_second(e: Engine, s: Received) -> Judged
-    ensures { result ≡ judge_second e s }
+fn judge_second(e: &Engine, s: Received) -> Result<(), Refusal>
+    ensures { result ≡ judge_second e.now s }
 {
-    let live = e.live;
-    if 2000 <= live.received {
-        return Judged::Refused(Refusal::Count);
+    let received = e.live.received;
+    if 2000 <= received {
+        return Err(Refusal::Count);
     }
-    let place = live.received + 1;
+    let place = received + 1;
     if !house::good_in(e.version as usize, s.speed as usize, s.flags, s.fourth) {
-        return Judged::Refused(Refusal::Second { second: place });
+        return Err(Refusal::Second { second: place });
     }
     if !may_be(e, s) {
-        return Judged::Refused(Refusal::Marked { second: place });
+        return Err(Refusal::Marked { second: place });
     }
     let close = own::is_close(e.tenths, s.flags, s.speed);
-    refusal::check(
-        !close,
-        Refusal::TooClose { second: place },
-        Judged::Accepted,
-    )
+    refusal::check(!close, Refusal::TooClose { second: place })
 }
 
 // The engine with a second more.
 #[tactic(auto, unfolding(crate::specs::Prompt::judge_second))]
-fn take(e: Engine, s: Received) -> Engine
-    requires { judge_second e s ≡ Accepted }
-    ensures { result ≡ after e s }
+fn take(e: &mut Engine, s: Received)
+    requires { judge_second e.old s ≡ Ok tt }
+    ensures { e.new ≡ after e.old s }
 {
-    let v = e.v;
-    let tenths = e.tenths;
-    let gear = own::own_second(tenths, s.flags, s.speed);
-    Engine {
-        version: e.version,
-        v,
-        tenths,
-        live: live::step(e.live, s.speed, s.flags, gear),
-    }
+    let gear = own::own_second(e.tenths, s.flags, s.speed);
+    e.live = live::step(e.live, s.speed, s.flags, gear);
 }
 
-// A second. A refused one leaves the engine as it was.
+// A second: what is given, or a refusal, and then the engine is as it was.
 #[tactic(auto, unfolding(crate::specs::Prompt::heard))]
-pub fn hear(e: Engine, s: Received) -> Heard
-    ensures { result ≡ heard e s }
+pub fn hear(engine: &mut Engine, second: Received) -> Result<Given, Refusal>
+    ensures { (result ≡ answer_by (heard engine.old second).judged (heard engine.old second).given)
+        × (engine.new ≡ (heard engine.old second).engine) }
 {
-    let judged = judge_second(e, s);
-    let Judged::Accepted = judged else {
-        return Heard {
-            judged,
-            engine: e,
-            given: live::nothing(),
-        };
-    };
-    Heard {
-        judged: Judged::Accepted,
-        engine: take(e, s),
-        given: live::give(e.v, e.live, s.flags),
-    }
+    judge_second(engine, second)?;
+    let given = live::give(engine.v, engine.live, second.flags);
+    take(engine, second);
+    Ok(given)
 }
 
 // The end of the trace. Refusal 2 where no second was received.
 #[tactic(auto, unfolding(crate::specs::Prompt::ended, crate::specs::Prompt::judge_end))]
-pub fn end(e: Engine) -> Ended
-    ensures { result ≡ ended e }
+pub fn end(engine: Engine) -> Result<Given, Refusal>
+    ensures { result ≡ answer_by (ended engine).judged (ended engine).given }
 {
-    let live = e.live;
-    if live.received == 0 {
-        return Ended {
-            judged: Judged::Refused(Refusal::Count),
-            given: live::nothing(),
-        };
-    }
-    Ended {
-        judged: Judged::Accepted,
-        given: live::finish(e.v, live),
-    }
+    let live = engine.live;
+    refusal::check(0 < live.received, Refusal::Count)?;
+    Ok(live::finish(engine.v, live))
 }

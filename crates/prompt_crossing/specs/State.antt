@@ -1,15 +1,14 @@
 -- What a bench keeps between two calls of the live engine and hands back (02, M-110), in numbers alone: what was refused, and the engine. Every state is answered, also one that no
 -- call has made.
-use Rattle.std.specs.Prelude.{cond, [], ◌∷◌, ℕ, eqb}
-use Rattle.refusal.specs.declared.Judged.{Judged}
-use Rattle.refusal.specs.declared.Judged.TheVariants.{Accepted, Refused}
+use Rattle.std.specs.Prelude.{cond, [], ◌∷◌, ℕ, eqb, Result, Ok, Err}
+use Rattle.refusal.specs.declared.Refusal.{Refusal}
+use Rattle.refusal.specs.Judging.{Judged}
 use Rattle.vehicle.specs.declared.VehicleSheet.{VehicleSheet}
+use Rattle.live.specs.declared.Given.{Given}
 use Rattle.live.specs.Live.{fresh, packed}
 use Rattle.prompt.specs.declared.Engine.{Engine}
 use Rattle.prompt.specs.declared.Received.{Received}
-use Rattle.prompt.specs.declared.Heard.{Heard}
-use Rattle.prompt.specs.declared.Ended.{Ended}
-use Rattle.prompt.specs.Prompt.{judge_begin, begun, heard, ended}
+use Rattle.prompt.specs.Prompt.{judge_begin, begun, Heard, heard, Ended, ended}
 use Rattle.outcome.specs.Outcome.{outcome_of}
 use Rattle.prompt_crossing.specs.declared.LiveState.{LiveState}
 use Rattle.prompt_crossing.specs.declared.LiveAnswer.{LiveAnswer}
@@ -31,8 +30,8 @@ no_engine = record {
 }
 
 abbrev pub begin_by : Judged → ℕ → VehicleSheet → LiveState
-begin_by Accepted version v = record { outcome = outcome_of Accepted; engine = begun version v }
-begin_by (Refused refusal) version v = record { outcome = outcome_of (Refused refusal); engine = no_engine }
+begin_by (Ok _) version v = record { outcome = outcome_of (Ok tt); engine = begun version v }
+begin_by (Err refusal) version v = record { outcome = outcome_of (Err refusal); engine = no_engine }
 
 unfoldable pub begin_out : ℕ → VehicleSheet → LiveState
 begin_out version v = begin_by (judge_begin version v) version v
@@ -50,3 +49,8 @@ ended_out e = record { outcome = outcome_of e.judged; given = e.given }
 
 unfoldable pub end_out : LiveState → LiveEnd
 end_out state = cond (eqb state.outcome.number 0) (ended_out (ended state.engine)) (record { outcome = state.outcome; given = packed 0 [] })
+
+-- ---- what a call answers, in numbers alone
+abbrev pub told_by : Result Given Refusal → LiveEnd
+told_by (Ok given) = record { outcome = outcome_of (Ok tt); given = given }
+told_by (Err refusal) = record { outcome = outcome_of (Err refusal); given = packed 0 [] }

@@ -2,12 +2,12 @@
 #![tactic(auto)]
 
 ghost use Rattle.std.specs.Prelude.{◌≡◌};
-ghost use Rattle.prompt_crossing.specs.State.{no_engine, begin_out, second_out, end_out};
+ghost use Rattle.prompt_crossing.specs.State.{no_engine, begin_out, second_out, told_by, end_out};
 
 use live::Given;
 use outcome::Outcome;
 use prompt::{Engine, Received};
-use refusal::Judged;
+use refusal::Refusal;
 use tenths::{LeastTenths, Tenths};
 use vehicle::VehicleSheet;
 
@@ -67,16 +67,31 @@ fn no_engine() -> Engine
 pub fn begin(version: u32, v: VehicleSheet) -> LiveState
     ensures { result ≡ begin_out version v }
 {
-    let judged = prompt::judge_begin(version, v);
-    let Judged::Accepted = judged else {
-        return LiveState {
-            outcome: outcome::outcome_of(judged),
+    match prompt::read(version, v) {
+        Ok(v) => LiveState {
+            outcome: Outcome::from(Ok(())),
+            engine: prompt::begin(version, v),
+        },
+        Err(refusal) => LiveState {
+            outcome: Outcome::from(Err(refusal)),
             engine: no_engine(),
-        };
-    };
-    LiveState {
-        outcome: outcome::outcome_of(Judged::Accepted),
-        engine: prompt::begin(version, v),
+        },
+    }
+}
+
+// What a call answers, in numbers alone: beside a refusal nothing is given.
+fn told(answer: Result<Given, Refusal>) -> LiveEnd
+    ensures { result ≡ told_by answer }
+{
+    match answer {
+        Ok(given) => LiveEnd {
+            outcome: Outcome::from(Ok(())),
+            given,
+        },
+        Err(refusal) => LiveEnd {
+            outcome: Outcome::from(Err(refusal)),
+            given: live::nothing(),
+        },
     }
 }
 
@@ -92,15 +107,12 @@ pub fn second(state: LiveState, s: Received) -> LiveAnswer
             given: live::nothing(),
         };
     }
-    let heard = prompt::hear(state.engine, s);
-    let judged = heard.judged;
-    let engine = heard.engine;
-    let given = heard.given;
+    let mut engine = state.engine;
+    let answer = told(prompt::hear(&mut engine, s));
+    let outcome = answer.outcome;
+    let given = answer.given;
     LiveAnswer {
-        state: LiveState {
-            outcome: outcome::outcome_of(judged),
-            engine,
-        },
+        state: LiveState { outcome, engine },
         given,
     }
 }
@@ -117,11 +129,5 @@ pub fn end(state: LiveState) -> LiveEnd
             given: live::nothing(),
         };
     }
-    let ended = prompt::end(state.engine);
-    let judged = ended.judged;
-    let given = ended.given;
-    LiveEnd {
-        outcome: outcome::outcome_of(judged),
-        given,
-    }
+    told(prompt::end(state.engine))
 }

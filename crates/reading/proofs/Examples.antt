@@ -8,18 +8,18 @@ use Rattle.arith.specs.Rounding.{div_down, div_up}
 use mathlib.Core.Bool.{Bool, true, false}
 use Rattle.reading.specs.declared.Binary.{Binary}
 use Rattle.reading.specs.declared.Message.TheVariants.{Ppm, Percent}
-use Rattle.reading.specs.declared.Worth.{Worth}
-use Rattle.reading.specs.declared.Worth.TheVariants.{Units, Unusable}
+use Rattle.std.specs.Prelude.{None, Option, Some}
+use Rattle.arith.specs.declared.Ends.{Ends}
 use Rattle.reading.specs.Pattern.{binary_of, over}
 use Rattle.reading.specs.Units.{outward, units_of}
 
 abbrev float : ℕ → Float
 float bits = of_bits binary32 bits
 
-abbrev between : ℕ → ℕ → Worth
-between lower upper = Units (record { lower = pos lower; upper = pos upper })
+abbrev between : ℕ → ℕ → Option Ends
+between lower upper = Some (record { lower = pos lower; upper = pos upper })
 
-abbrev units : ℕ → Worth
+abbrev units : ℕ → Option Ends
 units u = between u u
 
 -- 1/512 ppm, which is half a unit, and 1/1,024 ppm
@@ -67,7 +67,7 @@ smallest : units_of (Percent (float 1)) ≡ between 0 1
 unfolding units_of of_bits outward div_down div_up
 smallest = refl
 
-below-zero : units_of (Percent (float 0x8000_0001)) ≡ Unusable
+below-zero : units_of (Percent (float 0x8000_0001)) ≡ None
 unfolding units_of of_bits outward div_down div_up
 below-zero = refl
 
@@ -80,7 +80,7 @@ limit : units_of (Ppm (float 0x4780_0000)) ≡ units 16777216
 unfolding units_of of_bits outward div_down div_up
 limit = refl
 
-past-limit : units_of (Ppm (float 0x4780_0001)) ≡ Unusable
+past-limit : units_of (Ppm (float 0x4780_0001)) ≡ None
 unfolding units_of of_bits outward div_down div_up
 past-limit = refl
 
@@ -90,15 +90,15 @@ percent-limit : units_of (Percent (float 0x40d1_b717)) ≡ between 16777215 1677
 unfolding units_of of_bits outward div_down div_up
 percent-limit = refl
 
-percent-past-limit : units_of (Percent (float 0x40d1_b718)) ≡ Unusable
+percent-past-limit : units_of (Percent (float 0x40d1_b718)) ≡ None
 unfolding units_of of_bits outward div_down div_up
 percent-past-limit = refl
 
-infinite : units_of (Ppm (float 0x7f80_0000)) ≡ Unusable
+infinite : units_of (Ppm (float 0x7f80_0000)) ≡ None
 unfolding units_of of_bits outward div_down div_up
 infinite = refl
 
-not-a-number : units_of (Percent (float 0xffc0_1234)) ≡ Unusable
+not-a-number : units_of (Percent (float 0xffc0_1234)) ≡ None
 unfolding units_of of_bits outward div_down div_up
 not-a-number = refl
 

@@ -3,4 +3,3 @@ mod Pattern
 mod Numbers
 pub mod Usable
 mod Examples
-pub mod Gas

@@ -14,8 +14,8 @@ use lib.Ieee.Bits.{of_bits-to_bits, to_bits-lt}
 use lib.Ieee.Exact.{HasValue, odd_sign}
 use borrow.Author.Tests.{ltb-true, ltb-false, leb-true, le-leb, eqb-true, eq-eqb, ne_eqb}
 use Rattle.reading.specs.declared.Binary.{Binary}
-use Rattle.reading.specs.declared.Worth.{Worth}
-use Rattle.reading.specs.declared.Worth.TheVariants.{Unusable}
+use Rattle.std.specs.Prelude.{None, Option}
+use Rattle.arith.specs.declared.Ends.{Ends}
 use Rattle.reading.specs.Pattern.{exponent_field, trailing, apart, binary_of, over}
 use Rattle.reading.specs.Units.{Exact, none, exact_value, times, outward, up_to_limit, rounded}
 use Rattle.reading.proofs.Scaling.{ratio, outward-same, cross-times, of_size, below-zero, far, past}
@@ -133,7 +133,7 @@ module _ (bits : ℕ) where
       same = le_antisymm (ltb-false (2 ^ 31) bits (sym past-minus-zero ∙ h)) (leb-true (2 ^ 31) bits e)
 
   -- ---- the ways through `in_units`
-  pub negative : (k : ℕ) → 256 ≤ k → bits < 2 ^ 32 → b.negative ≡ true → Unusable ≡ rounded (times (pos k) (exact_value x))
+  pub negative : (k : ℕ) → 256 ≤ k → bits < 2 ^ 32 → b.negative ≡ true → None ≡ rounded (times (pos k) (exact_value x))
   negative k K w n = elim (eq-or-lt_of_le reads.most) [
     | inl e ↦ sym (ap (λ (v : Exact). rounded (times (pos k) v)) (reads.unsized e))
     | inr l ↦
@@ -148,7 +148,7 @@ module _ (bits : ℕ) where
       zero : s ≡ true → size b ≡ 0
       zero e = ap (λ (m : ℕ). m * 2 ^ (b.exponent - 1)) (minus-zero n e) ∙ zero-mul (2 ^ (b.exponent - 1))
 
-  pub too_large : (k : ℕ) → 256 ≤ k → b.negative ≡ false → 144 ≤ b.exponent → Unusable ≡ rounded (times (pos k) (exact_value x))
+  pub too_large : (k : ℕ) → 256 ≤ k → b.negative ≡ false → 144 ≤ b.exponent → None ≡ rounded (times (pos k) (exact_value x))
   too_large k K n h = elim (eq-or-lt_of_le reads.most) [
     | inl e ↦ sym (ap (λ (v : Exact). rounded (times (pos k) v)) (reads.unsized e))
     | inr l ↦ past (outward (ratio (k * size b) (2 ^ 149))) (far k (size b) (2 ^ 149) (pow_pos 149) K large) ∙ sym (at_size k n l)
@@ -189,14 +189,14 @@ module _ (k : ℕ) (x : Float) (held : T (fits binary32 x)) where
   abbrev own : Binary
   own = binary_of (to_bits binary32 x)
 
-  worth : (z : Worth) → z ≡ rounded (times (pos k) (exact_value (of_bits binary32 (to_bits binary32 x)))) → rounded (times (pos k) (exact_value x)) ≡ z
+  worth : (z : Option Ends) → z ≡ rounded (times (pos k) (exact_value (of_bits binary32 (to_bits binary32 x)))) → rounded (times (pos k) (exact_value x)) ≡ z
   worth z e = ap (λ (y : Float). rounded (times (pos k) (exact_value y))) (sym (of_bits-to_bits binary32 x held)) ∙ sym e
 
-  pub below_zero_is : 256 ≤ k → own.negative ≡ true → rounded (times (pos k) (exact_value x)) ≡ Unusable
-  below_zero_is K n = worth Unusable (negative (to_bits binary32 x) k K (to_bits-lt binary32 x held) n)
+  pub below_zero_is : 256 ≤ k → own.negative ≡ true → rounded (times (pos k) (exact_value x)) ≡ None
+  below_zero_is K n = worth None (negative (to_bits binary32 x) k K (to_bits-lt binary32 x held) n)
 
-  pub too_large_is : 256 ≤ k → own.negative ≡ false → 144 ≤ own.exponent → rounded (times (pos k) (exact_value x)) ≡ Unusable
-  too_large_is K n h = worth Unusable (too_large (to_bits binary32 x) k K n h)
+  pub too_large_is : 256 ≤ k → own.negative ≡ false → 144 ≤ own.exponent → rounded (times (pos k) (exact_value x)) ≡ None
+  too_large_is K n h = worth None (too_large (to_bits binary32 x) k K n h)
 
   pub in_range_is : own.negative ≡ false → own.exponent < 144
       → rounded (times (pos k) (exact_value x)) ≡ up_to_limit (outward (over (k * own.significand) (150 - own.exponent)))

@@ -23,7 +23,7 @@ use Rattle.arith.proofs.Ring.{mul-cancel-<, mul-add, mul-sub}
 use Rattle.arith.proofs.Rounding.{down-unique, down-same, up-ge, up-unique, up-whole, up_same, same_ends}
 use Rattle.reading.specs.Units.{value, exact_value, times, outward, most_units, up_to_limit, rounded}
 use Rattle.reading.specs.Pattern.{over, with_rest}
-use Rattle.reading.specs.declared.Worth.TheVariants.{Units, Unusable}
+use Rattle.std.specs.Prelude.{None, Some}
 
 abbrev pub ratio : ℕ → ℕ → Fraction
 ratio n d = decimal (pos n) d
@@ -71,11 +71,11 @@ shifted z s h = by (1 * 2 ^ s % 2 ^ 64) (shl_exact 1 s 64 (lit< tt) h' ∙ one-m
 -- ---- the definition at n / d, not below zero
 plus : (k n d : ℕ) → rounded (times (pos k) (value (ratio n d))) ≡ up_to_limit (outward (ratio (k * n) d))
 plus k n d =
-    ap (λ (t : Bool). cond t Unusable (up_to_limit (outward (ratio (n * k) (d * 1))))) (le-ltb (n * k) 0 zero-le)
+    ap (λ (t : Bool). cond t None (up_to_limit (outward (ratio (n * k) (d * 1))))) (le-ltb (n * k) 0 zero-le)
     ∙ ap up_to_limit (ap (λ (x : ℕ). outward (ratio x (d * 1))) (mul_comm n k) ∙ ap (λ (x : ℕ). outward (ratio (k * n) x)) (mul-one d))
 
 -- below zero
-minus : (k n : ℕ) (d : ℤ) → 0 < k → 0 < n → Unusable ≡ rounded (times (pos k) (value (record { num = neg_ℤ (pos n); den = d })))
+minus : (k n : ℕ) (d : ℤ) → 0 < k → 0 < n → None ≡ rounded (times (pos k) (value (record { num = neg_ℤ (pos n); den = d })))
 minus k zero d K h = absurd (lt_irrefl 0 h)
 minus k (suc n) d K h = go (lt_z z (pos 0)) below.lt
   where
@@ -85,7 +85,7 @@ minus k (suc n) d K h = go (lt_z z (pos 0)) below.lt
     below : z <ℤ pos 0
     below = omega (zs, mul-parts (negsuc n) (pos k))
 
-    go : (t : Bool) → T t → Unusable ≡ cond t Unusable (up_to_limit (outward (record { num = z; den = d *ℤ pos 1 })))
+    go : (t : Bool) → T t → None ≡ cond t None (up_to_limit (outward (record { num = z; den = d *ℤ pos 1 })))
     go true t = refl
     go false t = absurd t
 
@@ -117,7 +117,7 @@ of_size k (fin t m e) s a c C z v =
     zero : T t → m * up e ≡ 0
     zero u = zero-only (m * up e) c (a * down e) C v.1 (ap (λ (n : ℕ). n * down e) (z (sym v.0 ∙ is_true t u)) ∙ zero-mul (down e))
 
-pub below-zero : (k : ℕ) (x : Float) (a c : ℕ) → 0 < k → 0 < a → HasValue x true a c → Unusable ≡ rounded (times (pos k) (exact_value x))
+pub below-zero : (k : ℕ) (x : Float) (a c : ℕ) → 0 < k → 0 < a → HasValue x true a c → None ≡ rounded (times (pos k) (exact_value x))
 below-zero k nan a c K A v = absurd v
 below-zero k (inf t) a c K A v = absurd v
 below-zero k (fin false m e) a c K A v = absurd (true≢false (sym v.0))
@@ -135,9 +135,9 @@ far k n d D K N =
     let most = mul-le-mul K N in
     mul-cancel-< (pos d) (omega zs) (omega zs)
 
-pub past : (e : Ends) → pos most_units <ℤ e.upper → Unusable ≡ up_to_limit e
+pub past : (e : Ends) → pos most_units <ℤ e.upper → None ≡ up_to_limit e
 past e h = go (le_z e.upper (pos most_units)) le_z_yes
   where
-    go : (t : Bool) → (T t → e.upper ≤ℤ pos most_units) → Unusable ≡ cond t (Units e) Unusable
+    go : (t : Bool) → (T t → e.upper ≤ℤ pos most_units) → None ≡ cond t (Some e) None
     go true f = absurd (clash_ℤ h (f tt))
     go false f = refl

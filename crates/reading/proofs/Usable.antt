@@ -15,7 +15,7 @@ use Rattle.arith.proofs.Machine.{lt-false, le-true}
 use Rattle.arith.proofs.Rounding.{down_le, down-max, up-ge, down-up, up-down}
 use Rattle.reading.specs.declared.Message.{Message}
 use Rattle.reading.specs.declared.Message.TheVariants.{Ppm, Percent, OverRange, NotFitted}
-use Rattle.reading.specs.declared.Worth.TheVariants.{Units, Unusable}
+use Rattle.std.specs.Prelude.{None, Some}
 use Rattle.reading.specs.Units.{Exact, value, exact_value, times, exact_units, outward, most_units, rounded, units_of}
 
 pub record Usable (x : Exact) (e : Ends) : Type 0 where
@@ -26,7 +26,7 @@ pub record Usable (x : Exact) (e : Ends) : Type 0 where
   pub limit : e.upper ≤ℤ pos most_units
   pub narrow : Narrow 1 e
 
-same_units : {a b : Ends} → Units a ≡ Units b → a ≡ b
+same_units : {a b : Ends} → Some a ≡ Some b → a ≡ b
 same_units p = cc
 
 -- a fraction that passed both tests
@@ -43,21 +43,21 @@ module _ (q : Fraction) (p : pos 0 <ℤ q.den) where
         narrow = record { ordered = down-up q.num q.den p; apart = up-down q.num q.den p };
       }
 
-  at-fraction : {e : Ends} → rounded (value q) ≡ Units e → Usable (value q) e
+  at-fraction : {e : Ends} → rounded (value q) ≡ Some e → Usable (value q) e
   at-fraction {e} h = go (lt_z q.num (pos 0)) (le_z (outward q).upper (pos most_units)) refl refl h
     where
       go : (t u : Bool) → lt_z q.num (pos 0) ≡ t → le_z (outward q).upper (pos most_units) ≡ u →
-          cond t Unusable (cond u (Units (outward q)) Unusable) ≡ Units e → Usable (value q) e
+          cond t None (cond u (Some (outward q)) None) ≡ Some e → Usable (value q) e
       go true u x y h = absurd (false≢true (cc))
       go false true x y h = rw (← same_units h) (passed (lt-false x) (le-true y))
       go false false x y h = absurd (false≢true (cc))
 
-at-float : (k : ℕ) (x : Float) {e : Ends} → rounded (times (pos k) (exact_value x)) ≡ Units e → Usable (times (pos k) (exact_value x)) e
+at-float : (k : ℕ) (x : Float) {e : Ends} → rounded (times (pos k) (exact_value x)) ≡ Some e → Usable (times (pos k) (exact_value x)) e
 at-float k nan h = absurd (false≢true (cc))
 at-float k (inf s) h = absurd (false≢true (cc))
 at-float k (fin s m e) h = at-fraction _ (let d = down_pos e in omega zs) h
 
-pub usable : (message : Message) {e : Ends} → units_of message ≡ Units e → Usable (exact_units message) e
+pub usable : (message : Message) {e : Ends} → units_of message ≡ Some e → Usable (exact_units message) e
 unfolding units_of
 usable (Ppm x) h = at-float 256 x h
 usable (Percent x) h = at-float 2560000 x h

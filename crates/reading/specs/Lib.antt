@@ -1,3 +1,2 @@
 pub mod Units
 pub mod Pattern
-pub mod Gas

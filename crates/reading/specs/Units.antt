@@ -1,6 +1,6 @@
 -- What a message of the analyser is worth in units of 1/256 ppm (01, Bag sheet and figures, first paragraph; 02, M-104).
 -- A float is `nan`, `inf s` or `fin s m e`: m · 2ᵉ, with a minus where s is true. `up e / down e` is 2ᵉ (lib.Ieee).
-use Rattle.std.specs.Prelude.{ℕ, ◌*◌, Bool, true, false, cond, ℤ, pos, neg_ℤ, Float}
+use Rattle.std.specs.Prelude.{ℕ, ◌*◌, Bool, true, false, cond, ℤ, pos, neg_ℤ, Float, None, Option, Some}
 use Rattle.std.specs.Int.Signed.{le_z, lt_z}
 use Rattle.std.specs.Float.{nan, inf, fin}
 use Rattle.std.specs.Float.Ieee.{up, down}
@@ -10,8 +10,6 @@ use Rattle.arith.specs.Stages.{exactly}
 use Rattle.arith.specs.Fraction.{Fraction, whole, ◌*ᶠ◌}
 use Rattle.reading.specs.declared.Message.{Message}
 use Rattle.reading.specs.declared.Message.TheVariants.{Ppm, Percent, OverRange, NotFitted}
-use Rattle.reading.specs.declared.Worth.{Worth}
-use Rattle.reading.specs.declared.Worth.TheVariants.{Units, Unusable}
 
 -- "the float's exact value": a fraction; what is not a number or infinite has none
 pub data Exact : Type 0 where
@@ -44,16 +42,16 @@ outward q = record { lower = div_down q.num q.den; upper = div_up q.num q.den }
 abbrev pub most_units : ℕ
 most_units = 16777216
 
-abbrev pub up_to_limit : Ends → Worth
-up_to_limit ends = cond (le_z ends.upper (pos most_units)) (Units ends) Unusable
+abbrev pub up_to_limit : Ends → Option Ends
+up_to_limit ends = cond (le_z ends.upper (pos most_units)) (Some ends) None
 
 -- "its 'below zero' still on the float itself", whose sign the scale keeps: before any rounding
-abbrev pub rounded : Exact → Worth
-rounded none = Unusable
-rounded (value q) = cond (lt_z q.num (pos 0)) Unusable (up_to_limit (outward q))
+abbrev pub rounded : Exact → Option Ends
+rounded none = None
+rounded (value q) = cond (lt_z q.num (pos 0)) None (up_to_limit (outward q))
 
 -- what a message is worth
-unfoldable pub units_of : Message → Worth
+unfoldable pub units_of : Message → Option Ends
 units_of message = rounded (exact_units message)
 
 -- ---- the reading behind the cutter, 02, M-108
@@ -64,5 +62,5 @@ is_fitted OverRange = true
 is_fitted NotFitted = false
 
 -- "'not fitted' for the cutter reading .. leaves the fifth absent": it is no fault. No figure is made of the 0 that stands for it
-unfoldable pub cutter_units : Message → Worth
-cutter_units message = cond (is_fitted message) (units_of message) (Units (exactly (pos 0)))
+unfoldable pub cutter_units : Message → Option Ends
+cutter_units message = cond (is_fitted message) (units_of message) (Some (exactly (pos 0)))

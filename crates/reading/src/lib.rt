@@ -28,21 +28,14 @@ pub struct Bag {
     pub cutter: Message,
 }
 
-// What a message is worth: its ends in units, where it is usable.
-#[derive(Clone, Copy)]
-pub enum Worth {
-    Units(Ends),
-    Unusable,
-}
-
 // The limit is judged on the upper end.
-fn up_to_limit(ends: Ends) -> Worth
+fn up_to_limit(ends: Ends) -> Option<Ends>
     ensures { result ≡ up_to_limit ends }
 {
     if ends.upper <= 16777216 {
-        Worth::Units(ends)
+        Some(ends)
     } else {
-        Worth::Unusable
+        None
     }
 }
 
@@ -74,13 +67,13 @@ fn binary_of(bits: u32) -> Binary
     let trailing: u64 = (bits % 0x80_0000) as u64;
     if field == 0 {
         Binary {
-            negative: negative,
+            negative,
             exponent: 1,
             significand: trailing,
         }
     } else {
         Binary {
-            negative: negative,
+            negative,
             exponent: field,
             significand: trailing + 0x80_0000,
         }
@@ -119,30 +112,31 @@ fn outward(product: u64, places: u64) -> Ends
 // A float's ends in units, `each` of them to one ppm or percent, in whole numbers from its bits. From the exponent 144 on, which is 131,072, a float is
 // over the limit in either measure, infinite or not a number.
 #[tactic(auto, using(crate::proofs::Pattern::below_zero_is, crate::proofs::Pattern::too_large_is, crate::proofs::Pattern::in_range_is, crate::proofs::Pattern::product_below))]
-fn in_units(x: f32, each: u64) -> Worth
-    requires fact_1 { 256 ≤ each }
-    requires fact_2 { each < 2 ^ 28 }
+fn in_units(x: f32, each: u64) -> Option<Ends>
+    requires least { 256 ≤ each }
+    requires most { each < 2 ^ 28 }
     ensures { result ≡ rounded (times (pos each) (exact_value x)) }
 {
     let binary = binary_of(bits_of(x));
     if binary.negative {
-        return Worth::Unusable;
+        return None;
     }
     if binary.exponent >= 144 {
-        return Worth::Unusable;
+        return None;
     }
     up_to_limit(outward(each * binary.significand, 150 - binary.exponent))
 }
 
+// What a message is worth: its ends in units, where it is usable.
 #[tactic(auto, unfolding(crate::specs::Units::units_of))]
-pub fn convert(message: Message) -> Worth
+pub fn convert(message: Message) -> Option<Ends>
     ensures { result ≡ units_of message }
 {
     match message {
         Message::Ppm(x) => in_units(x, 256),
         Message::Percent(x) => in_units(x, 2560000),
-        Message::OverRange => Worth::Unusable,
-        Message::NotFitted => Worth::Unusable,
+        Message::OverRange => None,
+        Message::NotFitted => None,
     }
 }
 
@@ -159,13 +153,13 @@ pub fn is_fitted(message: Message) -> bool
 
 // A reading behind the cutter may be missing, and is then no fault (02, M-108). No figure is made of the 0 that stands for it.
 #[tactic(auto, unfolding(crate::specs::Units::cutter_units))]
-pub fn convert_cutter(message: Message) -> Worth
+pub fn convert_cutter(message: Message) -> Option<Ends>
     ensures { result ≡ cutter_units message }
 {
     if is_fitted(message) {
         convert(message)
     } else {
-        Worth::Units(arith::exactly(0))
+        Some(arith::exactly(0))
     }
 }
 

@@ -1,8 +1,10 @@
 -- The result record (02, M-105 and M-108): the weighted ends of each gas, its verdict as a number, and whether the test has the fifth.
-use Rattle.std.specs.Prelude.{Bool, not, cond, ◌||◌, ℕ, eqb}
-use Rattle.reading.specs.Gas.{Gas, HC, CO, NOx, CO2, NMHC, is_nmhc, among}
+use Rattle.std.specs.Prelude.{Bool, not, cond, ◌||◌, ℕ, eqb, None, Option, Some}
+use Rattle.refusal.specs.declared.Gas.{Gas}
+use Rattle.refusal.specs.declared.Gas.TheVariants.{HC, CO, NOx, CO2, NMHC}
+use Rattle.bag.specs.Gas.{is_nmhc, among}
 use Rattle.weigh.specs.declared.Verdict.{Verdict}
-use Rattle.weigh.specs.declared.Verdict.TheVariants.{Pass, Fail, Undecided, NoVerdict}
+use Rattle.weigh.specs.declared.Verdict.TheVariants.{Pass, Fail, Undecided}
 use Rattle.emission.specs.declared.Verdicts.{Verdicts}
 use Rattle.emission.specs.declared.TestResult.{TestResult}
 use Rattle.emission.specs.Test.{verdict_at}
@@ -10,11 +12,11 @@ use Rattle.record.specs.declared.VerdictNumbers.{VerdictNumbers}
 use Rattle.record.specs.declared.Record.{Record}
 
 -- 0 is no verdict: it stands beside a refusal, and for a gas that the test does not have
-abbrev pub verdict_number : Verdict → ℕ
-verdict_number Pass = 1
-verdict_number Fail = 2
-verdict_number Undecided = 3
-verdict_number NoVerdict = 0
+abbrev pub verdict_number : Option Verdict → ℕ
+verdict_number (Some Pass) = 1
+verdict_number (Some Fail) = 2
+verdict_number (Some Undecided) = 3
+verdict_number None = 0
 
 -- the number of a gas, and numbers for each
 abbrev pub number_at : Gas → VerdictNumbers → ℕ

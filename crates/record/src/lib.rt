@@ -2,7 +2,7 @@
 #![tactic(auto)]
 
 ghost use Rattle.std.specs.Prelude.{◌≡◌};
-ghost use Rattle.record.specs.Record.{verdict_number, verdict_numbers, flag_of, record_of};
+ghost use Rattle.record.specs.Record.{verdict_number, verdict_numbers, record_of};
 
 use emission::{TestResult, Verdicts};
 use sides::Gases;
@@ -28,48 +28,40 @@ pub struct Record {
     pub has_nmhc: u32,
 }
 
-fn verdict_number(v: Verdict) -> u32
+fn verdict_number(v: Option<Verdict>) -> u32
     ensures { result ≡ verdict_number v }
 {
     match v {
-        Verdict::Pass => 1,
-        Verdict::Fail => 2,
-        Verdict::Undecided => 3,
-        Verdict::NoVerdict => 0,
+        Some(Verdict::Pass) => 1,
+        Some(Verdict::Fail) => 2,
+        Some(Verdict::Undecided) => 3,
+        None => 0,
     }
 }
 
-#[tactic(auto, unfolding(crate::specs::Record::each_number, crate::specs::Record::verdict_numbers))]
-fn verdict_numbers(v: Verdicts) -> VerdictNumbers
-    ensures { result ≡ verdict_numbers v }
-{
-    let hc = v.hc;
-    let co = v.co;
-    let nox = v.nox;
-    let co2 = v.co2;
-    let nmhc = v.nmhc;
-    VerdictNumbers {
-        hc: verdict_number(hc),
-        co: verdict_number(co),
-        nox: verdict_number(nox),
-        co2: verdict_number(co2),
-        nmhc: verdict_number(nmhc),
+impl From<Verdicts> for VerdictNumbers {
+    ghost from_gives = { λ v out. out ≡ verdict_numbers v };
+
+    #[tactic(auto, unfolding(crate::specs::Record::each_number, crate::specs::Record::verdict_numbers))]
+    fn from(v: Verdicts) -> VerdictNumbers {
+        VerdictNumbers {
+            hc: verdict_number(Some(v.hc)),
+            co: verdict_number(Some(v.co)),
+            nox: verdict_number(Some(v.nox)),
+            co2: verdict_number(Some(v.co2)),
+            nmhc: verdict_number(v.nmhc),
+        }
     }
 }
 
-fn flag_of(has_nmhc: bool) -> u32
-    ensures { result ≡ flag_of has_nmhc }
-{
-    if has_nmhc { 1 } else { 0 }
-}
+impl From<TestResult> for Record {
+    ghost from_gives = { λ res out. out ≡ record_of res };
 
-pub fn record_of(res: TestResult) -> Record
-    ensures { result ≡ record_of res }
-{
-    let weighted = res.weighted;
-    Record {
-        weighted,
-        verdicts: verdict_numbers(res.verdicts),
-        has_nmhc: flag_of(res.has_nmhc),
+    fn from(res: TestResult) -> Record {
+        Record {
+            weighted: res.weighted,
+            verdicts: VerdictNumbers::from(res.verdicts),
+            has_nmhc: u32::from(res.has_nmhc),
+        }
     }
 }

@@ -1,13 +1,12 @@
 -- Lists of checks: one after the other, and what it means that all hold. Assumes nothing.
-use mathlib.Core.Path.{◌≡◌, refl, ap}
+use mathlib.Core.Path.{◌≡◌, refl, ap, ◌∙◌}
 use mathlib.Core.Bool.{Bool, true, false}
 use Prim.Native.Nat.{ℕ}
 use native.Mathlib.Omega.{arith}
 use mathlib.Core.List.{List, [], ◌∷◌, ◌++◌}
 use Rattle.refusal.specs.declared.Refusal.{Refusal}
-use Rattle.refusal.specs.declared.Judged.{Judged}
-use Rattle.refusal.specs.declared.Judged.TheVariants.{Accepted, Refused}
-use Rattle.refusal.specs.Judging.{checked, Check, checked_all, judged_by, and_then}
+use Rattle.std.specs.Prelude.{Ok, Err}
+use Rattle.refusal.specs.Judging.{Judged, checked, Check, checked_all, judged_by, and_then}
 
 -- one list after another
 pub checked_all-append : (cs ds : List Check) (rest : Judged) → checked_all (cs ++ ds) rest ≡ checked_all cs (checked_all ds rest)
@@ -23,12 +22,20 @@ pub checked_all-then : (cs : List Check) (rest : Judged) → checked_all cs rest
 checked_all-then [] rest = refl
 checked_all-then (c ∷ cs) rest = then_by c.holds c.refusal (judged_by cs) rest (checked_all-then cs rest)
 
+-- so what follows a check follows a stage
+pub one_check : (holds : Bool) (refusal : Refusal) (rest : Judged) → checked holds refusal rest ≡ and_then (checked holds refusal (Ok tt)) rest
+one_check holds refusal rest = then_by holds refusal (Ok tt) rest refl
+
+-- and so what follows a list of them
+pub one_after_another : (cs ds : List Check) (rest : Judged) → checked_all (cs ++ ds) rest ≡ and_then (judged_by cs) (checked_all ds rest)
+one_after_another cs ds rest = checked_all-append cs ds rest ∙ checked_all-then cs (checked_all ds rest)
+
 -- a refusal accepts nothing
-pub refused-not : {refusal : Refusal} → Refused refusal ≡ Accepted → ⊥
+pub refused-not : {refusal : Refusal} → ◌≡◌ {A = Judged} (Err refusal) (Ok tt) → ⊥
 refused-not p = let z : ◌≡◌ {A = ℕ} 0 1 = cc in omega arith
 
 -- where a check accepts, it holds, and so do those after it
-pub checked-holds : (holds : Bool) (refusal : Refusal) (rest : Judged) → checked holds refusal rest ≡ Accepted → (holds ≡ true) × (rest ≡ Accepted)
+pub checked-holds : (holds : Bool) (refusal : Refusal) (rest : Judged) → checked holds refusal rest ≡ Ok tt → (holds ≡ true) × (rest ≡ Ok tt)
 checked-holds true refusal rest e = (refl, e)
 checked-holds false refusal rest e = absurd (refused-not e)
 
@@ -37,13 +44,13 @@ abbrev pub AllHold : List Check → Type 0
 AllHold [] = Unit {0}
 AllHold (c ∷ cs) = (c.holds ≡ true) × AllHold cs
 
-pub judged-holds : (cs : List Check) → judged_by cs ≡ Accepted → AllHold cs
+pub judged-holds : (cs : List Check) → judged_by cs ≡ Ok tt → AllHold cs
 judged-holds [] e = tt
 judged-holds (c ∷ cs) e =
     let h = checked-holds c.holds c.refusal (judged_by cs) e in
     (h.0, judged-holds cs h.1)
 
 -- where a stage and what follows it accept, both do
-pub then-holds : (a b : Judged) → and_then a b ≡ Accepted → (a ≡ Accepted) × (b ≡ Accepted)
-then-holds Accepted b e = (refl, e)
-then-holds (Refused refusal) b e = absurd (refused-not e)
+pub then-holds : (a b : Judged) → and_then a b ≡ Ok tt → (a ≡ Ok tt) × (b ≡ Ok tt)
+then-holds (Ok _) b e = (refl, e)
+then-holds (Err refusal) b e = absurd (refused-not e)

@@ -1,14 +1,16 @@
 -- 01, Refusal numbers: "Lowest number first; within a number the first place". Checks stand in a list in that order, and the first that
 -- fails names the refusal.
-use Rattle.std.specs.Prelude.{Bool, true, false, List, [], ◌∷◌, ℕ}
+use Rattle.std.specs.Prelude.{Bool, true, false, List, [], ◌∷◌, ℕ, Result, Ok, Err}
 use Rattle.refusal.specs.declared.Refusal.{Refusal}
-use Rattle.refusal.specs.declared.Judged.{Judged}
-use Rattle.refusal.specs.declared.Judged.TheVariants.{Accepted, Refused}
+
+-- what a stage says of what it judges: nothing, or the refusal, which is handed up as it is
+abbrev pub Judged : Type 0
+Judged = Result (Unit {0}) Refusal
 
 -- one check before the others
 abbrev pub checked : Bool → Refusal → Judged → Judged
 checked true refusal rest = rest
-checked false refusal rest = Refused refusal
+checked false refusal rest = Err refusal
 
 pub record Check : Type 0 where
   pub holds : Bool
@@ -21,14 +23,14 @@ checked_all (c ∷ cs) rest = checked c.holds c.refusal (checked_all cs rest)
 
 -- a list of checks and nothing after it
 abbrev pub judged_by : List Check → Judged
-judged_by cs = checked_all cs Accepted
+judged_by cs = checked_all cs (Ok tt)
 
 -- what follows an accepted stage; a refused one ends the run
 abbrev pub and_then : Judged → Judged → Judged
-and_then Accepted next = next
-and_then (Refused refusal) next = Refused refusal
+and_then (Ok _) next = next
+and_then (Err refusal) next = Err refusal
 
 -- the bytes of a lent buffer: what is new where a stage accepted; a refusal leaves the old
 abbrev pub if_accepted : Judged → List ℕ → List ℕ → List ℕ
-if_accepted Accepted new old = new
-if_accepted (Refused refusal) new old = old
+if_accepted (Ok _) new old = new
+if_accepted (Err refusal) new old = old

@@ -1,5 +1,9 @@
 -- 01, Refusal numbers, and 02, M-103, for 16 and 17, M-105 for 18 and 21, M-108 for 19 and M-109 for 20: the table, row by row. A place is up to three numbers; `none` is the table's "none".
 use Rattle.std.specs.Prelude.{ℕ}
+use Rattle.refusal.specs.declared.Gas.{Gas}
+use Rattle.refusal.specs.declared.Gas.TheVariants.{HC, CO, NOx, CO2, NMHC}
+use Rattle.refusal.specs.declared.Side.{Side}
+use Rattle.refusal.specs.declared.Side.TheVariants.{Bag, Air}
 use Rattle.refusal.specs.declared.Refusal.{Refusal}
 use Rattle.refusal.specs.declared.Refusal.TheVariants.{Header, Count, Length, Second, Vehicle, Ratio, PowerToMass, Room, TooClose, Parts, Value, Reading, Dilution, Humidity, PairCounts, ReferenceMass, RotatingOrSpeed, LotSize, Efficiencies, Marked, LotRecord}
 use Rattle.refusal.specs.declared.Place.{Place}
@@ -16,7 +20,20 @@ at k = record { at = k; within = 0; side = 0 }
 abbrev pub in_part : ℕ → ℕ → Place
 in_part part k = record { at = part; within = k; side = 0 }
 
--- a gas of a part, in the bag (1) or in the air (2)
+-- "gases go HC, CO, NOx, CO2"; 02, M-108: "a fifth gas", hydrocarbons without methane
+abbrev pub gas_number : Gas → ℕ
+gas_number HC = 1
+gas_number CO = 2
+gas_number NOx = 3
+gas_number CO2 = 4
+gas_number NMHC = 5
+
+-- "bag before air"
+abbrev pub side_number : Side → ℕ
+side_number Bag = 1
+side_number Air = 2
+
+-- a gas of a part, in the bag or in the air
 abbrev pub on_side : ℕ → ℕ → ℕ → Place
 on_side part gas side = record { at = part; within = gas; side = side }
 
@@ -37,7 +54,7 @@ entry_of Room = 8 given none
 entry_of (TooClose second) = 9 given at second
 entry_of Parts = 10 given none
 entry_of (Value part field) = 11 given in_part part field
-entry_of (Reading part gas side) = 12 given on_side part gas side
+entry_of (Reading part gas side) = 12 given on_side part (gas_number gas) (side_number side)
 entry_of (Dilution part) = 13 given at part
 entry_of (Humidity part) = 14 given at part
 entry_of PairCounts = 15 given none

@@ -1,9 +1,10 @@
 // Corrections 1 to 5 of a row, in place (01, Corrections). They see the trace and no vehicle. The gear of second k is the row's byte 2 k.
 #![tactic(auto)]
 
-ghost use Rattle.std.specs.Prelude.{◌≡◌, ◌+◌, ◌-◌, min, max};
-ghost use Rattle.row.specs.Row.{HaveSeconds};
+ghost use Rattle.std.specs.Prelude.{◌≡◌, ◌+◌, ◌-◌, ◌*◌, ◌≤◌, length, min, max};
 ghost use Rattle.row.specs.Corrections.{capped, cap_after, cap_runs, not_first, ruled, pass_by};
+
+use house::HouseFile;
 
 // A deceleration second takes the smaller of its own gear and the cap.
 #[tactic(auto, unfolding(crate::specs::Corrections::capped))]
@@ -11,7 +12,7 @@ pub fn capped(flags: u8, cap: u8, own: u8) -> u8
     ensures { result ≡ capped flags cap own }
 {
     if house::is_deceleration(flags) {
-        if own < cap { own } else { cap }
+        own.min(cap)
     } else {
         own
     }
@@ -32,23 +33,22 @@ pub fn cap_after(flags: u8, cap: u8, own: u8) -> u8
     }
 }
 
-// Correction 1.
-pub fn cap_runs(trace: &[u8], row: &mut [u8], n: usize)
-    requires { HaveSeconds trace.now row.old n }
-    ensures { row.new ≡ cap_runs trace.now row.old n }
+// Correction 1. That the row has room stays a clause, in every correction: a struct of a trace and its row would be made anew for each part of a buffer that is lent.
+pub fn cap_runs(trace: HouseFile, row: &mut [u8])
+    requires { 2 * trace.seconds ≤ length row.old }
+    ensures { row.new ≡ cap_runs trace.entry.bytes.now row.old trace.entry.seconds }
 {
     let mut cap = 255;
-    let mut k = 0;
-    while k < n {
-        let flags = house::flags_at(trace, k);
+    for k in 0..trace.seconds {
+        let flags = trace.flags(k);
         let own = row[2 * k];
         row[2 * k] = capped(flags, cap, own);
         cap = cap_after(flags, cap, own);
-        k += 1;
     }
 }
 
-// Corrections 2 to 5: one loop carries all four, and only the gear of a second differs.
+// Corrections 2 to 5: one loop carries all four, and only the gear of a second differs. An enum and not a closure for each: what a correction is, is one definition over it (`by_rule`),
+// which the live engine and the lanes cite too.
 #[derive(Clone, Copy)]
 pub enum Rule {
     NoFirst,
@@ -67,12 +67,7 @@ fn not_first(flags: u8, gear: u8) -> u8
     }
 }
 
-fn no_drop(before: u8, own: u8) -> u8
-    ensures { result ≡ max before own }
-{
-    if own < before { before } else { own }
-}
-
+// By branches: each gear of a row waits for the one before it, and a minimum and a maximum would make it wait longer.
 fn one_step(before: u8, own: u8) -> u8
     ensures { result ≡ max (before - 1) (min (before + 1) own) }
 {
@@ -101,7 +96,7 @@ pub fn ruled(rule: Rule, first: bool, former: u8, flags: u8, before: u8, own: u8
             own
         },
         Rule::NoDrop => if house::is_acceleration(flags) & !first & house::is_acceleration(former) {
-            no_drop(before, own)
+            before.max(own)
         } else {
             own
         },
@@ -113,24 +108,22 @@ pub fn ruled(rule: Rule, first: bool, former: u8, flags: u8, before: u8, own: u8
 pub fn prior(k: usize) -> usize
     ensures { result ≡ k - 1 }
 {
-    if k == 0 { 0 } else { k - 1 }
+    k.saturating_sub(1)
 }
 
-pub fn pass(rule: Rule, trace: &[u8], row: &mut [u8], n: usize)
-    requires { HaveSeconds trace.now row.old n }
-    ensures { row.new ≡ pass_by rule trace.now row.old n }
+pub fn pass(rule: Rule, trace: HouseFile, row: &mut [u8])
+    requires { 2 * trace.seconds ≤ length row.old }
+    ensures { row.new ≡ pass_by rule trace.entry.bytes.now row.old trace.entry.seconds }
 {
-    let mut k = 0;
-    while k < n {
+    for k in 0..trace.seconds {
         let p = prior(k);
         row[2 * k] = ruled(
             rule,
             k == 0,
-            house::flags_at(trace, p),
-            house::flags_at(trace, k),
+            trace.flags(p),
+            trace.flags(k),
             row[2 * p],
             row[2 * k],
         );
-        k += 1;
     }
 }

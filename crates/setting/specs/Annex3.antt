@@ -1,11 +1,10 @@
 -- 001, Annex 3, classification of equivalent inertia mass and running resistance: the rule that is printed under its table, and the reference masses that it is for
 -- (02, M-103 and M-111).
-use Rattle.std.specs.Prelude.{Bool, cond, ℕ, ◌+◌, ◌*◌, ◌/◌}
+use Rattle.std.specs.Prelude.{Bool, cond, ℕ, ◌+◌, ◌*◌, ◌/◌, Result, Ok, Err}
+use Rattle.refusal.specs.declared.Refusal.{Refusal}
 use Rattle.refusal.specs.declared.Refusal.TheVariants.{ReferenceMass}
 use Rattle.refusal.specs.Ranges.{within}
 use Rattle.setting.specs.declared.Setting.{Setting}
-use Rattle.setting.specs.declared.SettingAnswer.{SettingAnswer}
-use Rattle.setting.specs.declared.SettingAnswer.TheVariants.{Set, Refused}
 
 -- "inertia every 10 kg", in kg, of a mass in 0.1 kg: the nearest, where a mass between two "of exactly 105.0 kg belongs to 100, and 105.1 to 110"
 unfoldable pub inertia_of : ℕ → ℕ
@@ -31,5 +30,5 @@ abbrev pub has_setting : ℕ → Bool
 has_setting mass = within 951 10000 mass
 
 -- "M-103's refusal 16 then begins above 1,000 kg"
-unfoldable pub setting_answer : ℕ → SettingAnswer
-setting_answer mass = cond (has_setting mass) (Set (ruled (inertia_of mass))) (Refused ReferenceMass)
+unfoldable pub setting_answer : ℕ → Result Setting Refusal
+setting_answer mass = cond (has_setting mass) (Ok (ruled (inertia_of mass))) (Err ReferenceMass)

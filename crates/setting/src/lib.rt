@@ -14,12 +14,6 @@ pub struct Setting {
     pub drag: u32,
 }
 
-#[derive(Clone, Copy)]
-pub enum SettingAnswer {
-    Set(Setting),
-    Refused(Refusal),
-}
-
 // Hundredths to the nearest whole number, halves up. In whole numbers: 20 of the 41 drag coefficients that Annex 3 prints are exact halves, which halves to even would not
 // give, nor floats of 32 bits.
 #[tactic(auto, unfolding(crate::specs::Annex3::rounded))]
@@ -32,18 +26,13 @@ fn rounded(hundredths: u32) -> u32
 
 // Refusal 16, or the setting of a mass in 0.1 kg.
 #[tactic(auto, unfolding(crate::specs::Annex3::inertia_of, crate::specs::Annex3::setting_answer))]
-pub fn setting_of(mass: u32) -> SettingAnswer
+pub fn setting_of(mass: u32) -> Result<Setting, Refusal>
     ensures { result ≡ setting_answer mass }
 {
-    if mass < 951 {
-        return SettingAnswer::Refused(Refusal::ReferenceMass);
-    }
-    if 10000 < mass {
-        return SettingAnswer::Refused(Refusal::ReferenceMass);
-    }
+    refusal::check((951 <= mass) & (mass <= 10000), Refusal::ReferenceMass)?;
     let inertia = 10 * ((mass + 49) / 100);
-    SettingAnswer::Set(Setting {
-        inertia: inertia,
+    Ok(Setting {
+        inertia,
         resistance: rounded(88 * inertia),
         drag: rounded(15 * inertia + 20000),
     })

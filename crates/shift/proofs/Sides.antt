@@ -9,11 +9,12 @@ use mir.Val.{SFits}
 use Rattle.arith.specs.declared.Ends.{Ends}
 use Rattle.arith.specs.Stages.{exactly, scaled_by}
 use Rattle.arith.specs.Fitting.{SumFits, DifferenceFits, ScaledFits, Sized}
-use Rattle.arith.proofs.Size.{exactly-size, scaled-size, difference-size, wider-size, scaled_fits, sum_fits, difference-fits}
+use Rattle.arith.proofs.Size.{exactly-size, scaled-size, sum-size, difference-size, wider-size, scaled_fits, sum_fits, difference-fits}
 use Rattle.vehicle.specs.declared.VehicleSheet.{VehicleSheet}
 use Rattle.vehicle.specs.Sheet.{Sound}
 use Rattle.shift.specs.Exponential.{Exponent}
-use Rattle.shift.specs.Speeds.{power_of, side_unit, share, higher_part, tenth, first_part, shift_of, ShiftRanges}
+use Rattle.shift.specs.Speeds.{power_of, side_unit, side_of, share, higher_part, tenth, first_part, first_side, higher_side, shift_of, ShiftRanges}
+use Rattle.shift.specs.Accepted.{largest_side, Geared, Worked}
 use Rattle.shift.specs.Fitting.{SideFits}
 use Rattle.shift.proofs.Terms.{exponential-size}
 
@@ -29,6 +30,12 @@ module _ {part : Ends} {span idle : ℕ} (f : SideFits part span idle) where
   side-fits =
       let foot : nat_abs (side_unit *ℤ pos idle) ≤ 130000000000000000 = omega (arith, f.low) in
       sum_fits {m = 20000 * 120000000000000} (lit< tt) (scaled-size (pos span) f.wide f.size) (exactly-size _ foot)
+
+side-size : {part : Ends} {span idle : ℕ} → SideFits part span idle → Sized largest_side (side_of part span idle)
+unfolding side_of
+side-size {part} {span} {idle} f =
+    let foot : 42949672960000 * idle ≤ 128849018880000000 = omega (arith, f.low) in
+    sum-size (scaled-size (pos span) f.wide f.size) (exactly-size _ foot)
 
 tenth-size : Sized 4300000000000 tenth
 tenth-size = exactly-size _ (lit≤ tt)
@@ -68,3 +75,18 @@ module _ {v : VehicleSheet} (s : Sound v) where
   shift-ranges =
       let g = s.ranged.gears in
       record { some = g.0; range = record { few = g.1; ndvs = λ i l. (s.ndv i l).1 } }
+
+  pub vehicle-geared : Geared (shift_of v)
+  unfolding shift_of first_side higher_side
+  vehicle-geared =
+      record {
+        first = side-size first_fits;
+        higher = side-size higher-fits;
+        some = s.ranged.gears.0;
+        ndvs = λ i l. omega (arith, (s.ndv i l).0);
+        slow = let r = s.ranged in omega (arith, r.rated, r.idle);
+      }
+
+  pub vehicle-worked : Worked (shift_of v)
+  unfolding shift_of
+  vehicle-worked = record { geared = vehicle-geared; ranges = shift-ranges; ratios = λ i l. (s.ndv i l).0 }

@@ -5,11 +5,11 @@ ghost use Rattle.std.specs.Prelude.{◌≡◌};
 ghost use Rattle.shift.specs.Exponential.{next_term, with_term, exponential_of, Exponent};
 ghost use Rattle.shift.specs.Fitting.{TermFits, SideFits};
 ghost use Rattle.shift.specs.Speeds.{side_of, shift_of, side_at};
-ghost use Rattle.vehicle.specs.Sheet.{Sound};
+ghost use Rattle.shift.specs.Accepted.{Worked};
 ghost use Rattle.arith.specs.Fitting.{SumFits, DifferenceFits};
 
 use arith::Ends;
-use vehicle::VehicleSheet;
+use vehicle::Vehicle;
 
 // The k-th term from the one before it.
 #[tactic(auto, unfolding(crate::specs::Exponential::next_term))]
@@ -17,8 +17,8 @@ fn next_term(over: u32, under: u32, t: Ends, k: u32) -> Ends
     requires { TermFits over under t k }
     ensures { result ≡ next_term over under t k }
 {
-    let times = arith::scaled(arith::whole(over), t);
-    arith::divided(times, arith::whole(under) * arith::whole(k))
+    let times = arith::scaled(i64::from(over), t);
+    arith::divided(times, i64::from(under) * i64::from(k))
 }
 
 // The sum with the k-th term.
@@ -40,9 +40,7 @@ fn exponential(over: u32, under: u32) -> Ends
 {
     let mut term = arith::exactly(4294967296);
     let mut sum = term;
-    let mut k = 0;
-    while k < 23 {
-        k += 1;
+    for k in 1..24 {
         term = next_term(over, under, term, k);
         sum = with_term(sum, term, k);
     }
@@ -60,8 +58,8 @@ fn side(part: Ends, span: u32, idle: u32) -> Ends
     requires { SideFits part span idle }
     ensures { result ≡ side_of part span idle }
 {
-    let rise = arith::scaled(arith::whole(span), part);
-    let foot = arith::exactly(42949672960000 * arith::whole(idle));
+    let rise = arith::scaled(i64::from(span), part);
+    let foot = arith::exactly(42949672960000 * i64::from(idle));
     arith::sum(rise, foot)
 }
 
@@ -77,11 +75,18 @@ pub struct Shift {
     pub rules: u32,
 }
 
+// The same of an accepted sheet, with what that tells of them.
+#[derive(Clone, Copy)]
+pub struct VehicleShift {
+    pub shift: Shift,
+    ghost worked: { Worked shift },
+}
+
 #[tactic(auto, unfolding(crate::specs::Speeds::first_side, crate::specs::Speeds::higher_side, crate::specs::Speeds::shift_of))]
-pub fn shift_of(v: VehicleSheet) -> Shift
-    requires { Sound v }
-    ensures { result ≡ shift_of v }
+fn of_sheet(v: Vehicle) -> Shift
+    ensures { result ≡ shift_of v.sheet }
 {
+    let v = v.sheet;
     let e = exponential(19 * v.power, 100 * (v.mass + 75));
     let part = arith::scaled(5753, e);
     let less = arith::difference(part, arith::exactly(4294967296000));
@@ -96,6 +101,12 @@ pub fn shift_of(v: VehicleSheet) -> Shift
         lowest: vehicle::lowest_engine_speed(v),
         rules: v.rules,
     }
+}
+
+pub fn shift_of(v: Vehicle) -> VehicleShift
+    ensures { result.shift ≡ shift_of v.sheet }
+{
+    VehicleShift { shift: of_sheet(v) }
 }
 
 pub fn side_at(first: Ends, higher: Ends, i: usize) -> Ends

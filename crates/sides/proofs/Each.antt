@@ -1,8 +1,8 @@
 -- What is made for each gas is each gas's. Assumes nothing.
 use mathlib.Core.Path.{◌≡◌}
 use Rattle.arith.specs.declared.Ends.{Ends}
-use Rattle.reading.specs.Gas.{Gas}
-use Rattle.reading.proofs.Gas.{among-each}
+use Rattle.refusal.specs.declared.Gas.{Gas}
+use Rattle.bag.proofs.Gas.{among-each}
 use Rattle.sides.specs.Gases.{ends_at, each}
 
 pub each_at : (gas : Gas) (f : Gas → Ends) → ends_at gas (each f) ≡ f gas

@@ -2,7 +2,9 @@
 use Rattle.std.specs.Prelude.{pos}
 use Rattle.arith.specs.declared.Ends.{Ends}
 use Rattle.arith.specs.Stages.{exactly}
-use Rattle.reading.specs.Gas.{Gas, HC, CO, NOx, CO2, NMHC, among}
+use Rattle.refusal.specs.declared.Gas.{Gas}
+use Rattle.refusal.specs.declared.Gas.TheVariants.{HC, CO, NOx, CO2, NMHC}
+use Rattle.bag.specs.Gas.{among}
 use Rattle.sides.specs.declared.Gases.{Gases}
 
 abbrev pub ends_at : Gas → Gases → Ends

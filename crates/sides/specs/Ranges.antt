@@ -1,5 +1,5 @@
 -- How large what was read can be.
-use Rattle.reading.specs.Gas.{Gas}
+use Rattle.refusal.specs.declared.Gas.{Gas}
 use Rattle.stage.specs.Ranges.{UpTo, largest_reading}
 use Rattle.sides.specs.declared.Gases.{Gases}
 use Rattle.sides.specs.Gases.{ends_at}

@@ -1,9 +1,8 @@
 -- 01, Shift speeds, and 02, M-101: the shift speeds of a vehicle in km/h, as a planner reads them. Every stage gives a lower end rounded down and an upper end rounded up.
 -- Gears and shift speeds count from 0 here.
-use Rattle.std.specs.Prelude.{cond, [], ◌∷◌, ℕ, ◌+◌, ◌-◌, ◌*◌, ◌≤◌, ◌<◌, get_or, eqb, ltb, pos}
+use Rattle.std.specs.Prelude.{cond, [], ◌∷◌, ℕ, ◌+◌, ◌-◌, ◌*◌, get_or, eqb, ltb, pos}
 use Rattle.arith.specs.declared.Ends.{Ends}
 use Rattle.arith.specs.Stages.{exactly, scaled_by, divided_by}
-use Rattle.arith.specs.Fitting.{Sized}
 use Rattle.shift.specs.declared.Shift.{Shift}
 use Rattle.shift.specs.Speeds.{side_at}
 use Rattle.speeds.specs.declared.ShiftSpeeds.{ShiftSpeeds}
@@ -34,15 +33,3 @@ shift_speeds_of s =
       upshift = upshift_at s 0 ∷ upshift_at s 1 ∷ upshift_at s 2 ∷ upshift_at s 3 ∷ upshift_at s 4 ∷ upshift_at s 5 ∷ upshift_at s 6 ∷ [];
       first = to_first s;
     }
-
--- the largest side of an accepted sheet: its terms' sizes, at the widest span and the highest idle
-abbrev pub largest_side : ℕ
-largest_side = 2528849018880000000
-
--- what the shift speeds of an accepted sheet have
-pub record Geared (s : Shift) : Type 0 where
-  pub first : Sized largest_side s.first
-  pub higher : Sized largest_side s.higher
-  pub some : 3 ≤ s.gears
-  pub ndvs : (i : ℕ) → i < s.gears → 1 ≤ get_or s.ndv i 0
-  pub slow : s.lowest ≤ 3600000

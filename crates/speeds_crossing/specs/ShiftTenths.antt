@@ -1,8 +1,7 @@
 -- The shift speeds of a vehicle in whole tenths as they cross the boundary: beside a refusal all 0.
-use Rattle.std.specs.Prelude.{List, [], ◌∷◌, ℕ, ◌-◌, get_or}
+use Rattle.std.specs.Prelude.{List, [], ◌∷◌, ℕ, ◌-◌, get_or, Ok, Err}
 use Rattle.walk.specs.Walk.{listed}
-use Rattle.refusal.specs.declared.Judged.{Judged}
-use Rattle.refusal.specs.declared.Judged.TheVariants.{Accepted, Refused}
+use Rattle.refusal.specs.Judging.{Judged}
 use Rattle.vehicle.specs.declared.VehicleSheet.{VehicleSheet}
 use Rattle.vehicle.specs.Sheet.{judge_vehicle}
 use Rattle.shift.specs.Speeds.{shift_of}
@@ -27,16 +26,16 @@ seven_of least = listed (λ i. get_or least i 0) 7
 
 -- so many upshifts as the gears have between them
 abbrev pub tenths_on : Judged → VehicleSheet → TenthsOutcome
-tenths_on Accepted v =
+tenths_on (Ok _) v =
     let tenths = tenths_of (shift_of v) in
     record {
-      outcome = outcome_of Accepted;
+      outcome = outcome_of (Ok tt);
       count = tenths.gears - 1;
       above = tenths.above;
       not_below = tenths.not_below;
       first = tenths.first;
     }
-tenths_on (Refused refusal) v = no_tenths (outcome_of (Refused refusal))
+tenths_on (Err refusal) v = no_tenths (outcome_of (Err refusal))
 
 -- 5, 6 and 7, or the tenths
 unfoldable pub tenths_out : VehicleSheet → TenthsOutcome

@@ -7,7 +7,6 @@ ghost use Rattle.speeds_crossing.specs.ShiftTenths.{no_tenths, seven_of, tenths_
 
 use arith::Ends;
 use outcome::Outcome;
-use refusal::Judged;
 use vehicle::VehicleSheet;
 
 // `speeds::ShiftSpeeds` beside the outcome.
@@ -36,15 +35,15 @@ fn no_speeds(outcome: Outcome) -> SpeedsOutcome
 pub fn speeds_out(vehicle: VehicleSheet) -> SpeedsOutcome
     ensures { result ≡ speeds_out vehicle }
 {
-    let judged = vehicle::judge(vehicle);
-    let Judged::Accepted = judged else {
-        return no_speeds(outcome::outcome_of(judged));
+    let vehicle = match vehicle::read(vehicle) {
+        Ok(vehicle) => vehicle,
+        Err(refusal) => return no_speeds(Outcome::from(Err(refusal))),
     };
     let speeds = speeds::of_vehicle(vehicle);
     let upshift = speeds.upshift;
     let first = speeds.first;
     SpeedsOutcome {
-        outcome: outcome::outcome_of(judged),
+        outcome: Outcome::from(Ok(())),
         count: speeds.count,
         upshift,
         first,
@@ -80,10 +79,8 @@ fn wide(least: [u16; 7]) -> [u32; 7]
     ensures { result ≡ seven_of least }
 {
     let mut wide = [0; 7];
-    let mut i = 0;
-    while i < 7 {
+    for i in 0..7 {
         wide[i] = least[i] as u32;
-        i += 1;
     }
     wide
 }
@@ -92,15 +89,15 @@ fn wide(least: [u16; 7]) -> [u32; 7]
 pub fn tenths_out(vehicle: VehicleSheet) -> TenthsOutcome
     ensures { result ≡ tenths_out vehicle }
 {
-    let judged = vehicle::judge(vehicle);
-    let Judged::Accepted = judged else {
-        return no_tenths(outcome::outcome_of(judged));
+    let vehicle = match vehicle::read(vehicle) {
+        Ok(vehicle) => vehicle,
+        Err(refusal) => return no_tenths(Outcome::from(Err(refusal))),
     };
     let tenths = tenths::of_vehicle(vehicle);
     let above = tenths.above;
     let not_below = tenths.not_below;
     TenthsOutcome {
-        outcome: outcome::outcome_of(judged),
+        outcome: Outcome::from(Ok(())),
         count: tenths.gears - 1,
         above: wide(above),
         not_below: wide(not_below),

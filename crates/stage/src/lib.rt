@@ -10,7 +10,7 @@ ghost use Rattle.stage.specs.Combination.{combination_of};
 ghost use Rattle.stage.specs.Ranges.{CombinationRanges, VolumeRanges, GRanges, ConcentrationRanges, GasVolumeRanges, MassRanges};
 ghost use Rattle.stage.specs.Ranges.{HumidityRanges, KhRanges, NoxMassRanges, RateRanges};
 
-use arith::{Ends, divided, exactly, product, scaled, whole};
+use arith::{Ends, divided, exactly, product, scaled};
 
 // A product of the sheet's numbers, as a signed one.
 pub fn signed(n: u64) -> i64
@@ -27,8 +27,8 @@ pub fn combination(j: u32, a: Ends, k: u32, b: Ends, l: u32, c: Ends) -> Ends
     ensures { result ≡ combination_of j a k b l c }
 {
     arith::sum(
-        arith::sum(scaled(whole(j), a), scaled(whole(k), b)),
-        scaled(whole(l), c),
+        arith::sum(scaled(i64::from(j), a), scaled(i64::from(k), b)),
+        scaled(i64::from(l), c),
     )
 }
 
@@ -75,7 +75,7 @@ pub fn q_of(d: u32) -> u32
 pub fn dilution_good(g: Ends, q: u32) -> bool
     ensures { result ≡ dilution_good g q }
 {
-    g.upper < whole(q)
+    g.upper < i64::from(q)
 }
 
 // What the bag has beyond the dilution air, in 1/4,096 ppm: negative where the air has more.
@@ -84,7 +84,7 @@ pub fn concentration(bag: Ends, air: Ends, g: Ends, q: u32) -> Ends
     requires { ConcentrationRanges bag air g q }
     ensures { result ≡ concentration_of bag air g q }
 {
-    let q = whole(q);
+    let q = i64::from(q);
     let from_air = product(air, arith::difference(exactly(q), g));
     divided(scaled(16, arith::difference(scaled(q, bag), from_air)), q)
 }
@@ -104,7 +104,7 @@ pub fn mass(gas: Ends, density: u32) -> Ends
     requires { MassRanges gas density }
     ensures { result ≡ mass_of gas density }
 {
-    divided(scaled(whole(density), gas), 1000000)
+    divided(scaled(i64::from(density), gas), 1000000)
 }
 
 // The pressure of the vapour in the air, in mPa: g of 01.
@@ -160,5 +160,5 @@ pub fn rate(mass: Ends, distance: u32) -> Ends
     requires { RateRanges mass distance }
     ensures { result ≡ rate_of mass distance }
 {
-    divided(scaled(1000, mass), whole(distance))
+    divided(scaled(1000, mass), i64::from(distance))
 }

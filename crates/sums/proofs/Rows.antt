@@ -5,7 +5,7 @@ use mathlib.Core.List.{List}
 use Prim.Native.Nat.{ℕ, ◌<◌}
 use borrow.Author.Tests.{not-true}
 use Rattle.arith.specs.Fraction.{Fraction}
-use Rattle.refusal.specs.declared.Judged.TheVariants.{Accepted}
+use Rattle.std.specs.Prelude.{Ok}
 use Rattle.refusal.proofs.Judging.{refused-not}
 use Rattle.walk.proofs.Walk.{all-good}
 use Rattle.house.specs.House.{count_of, speed_at, flags_at, stop, acceleration}
@@ -25,9 +25,9 @@ outside-stop : (s : Shift) (flags speed : ℕ) → stop flags ≡ false → own_
 unfolding own_second
 outside-stop s flags speed e = ap (λ (stops : Bool). cond stops (record { gear = 0; close = false }) (own_gear s (acceleration flags) speed)) e
 
-module _ {v : VehicleSheet} (sound : Sound v) (trace : List ℕ) (called : judge_close (shift_of v) trace 0 (count_of trace) ≡ Accepted) where
+module _ {v : VehicleSheet} (sound : Sound v) (trace : List ℕ) (called : judge_close (shift_of v) trace 0 (count_of trace) ≡ Ok tt) where
   second-called : (k : ℕ) → k < count_of trace → (own_at (shift_of v) trace k).close ≡ false
-  second-called k l = not-true _ (all-good (λ k. not (own_at (shift_of v) trace k).close) _ _ Accepted (λ k. refused-not) (count_of trace) called k l)
+  second-called k l = not-true _ (all-good (λ k. not (own_at (shift_of v) trace k).close) _ _ (Ok tt) (λ k. refused-not) (count_of trace) called k l)
 
   pub row-exactly : (e : Fraction) → BetweenEnds v e → row_of v trace (count_of trace) ≡ exact_row v e trace
   unfolding row_of exact_row

@@ -7,7 +7,7 @@ use lib.Dec.{lit≤}
 use Rattle.arith.specs.Fraction.{Fraction}
 use Rattle.arith.proofs.Parts.{zs}
 use Rattle.arith.proofs.Width.{wider-narrow}
-use Rattle.refusal.specs.declared.Judged.TheVariants.{Accepted}
+use Rattle.std.specs.Prelude.{Ok}
 use Rattle.refusal.proofs.Judging.{then-holds}
 use Rattle.house.specs.House.{count_of}
 use Rattle.vehicle.specs.declared.VehicleSheet.{VehicleSheet}
@@ -42,13 +42,13 @@ sound-ends {v} sound =
           omega zs;
     }
 
-pub true-ends : (v : VehicleSheet) → judge_vehicle v ≡ Accepted → TrueEnds v
+pub true-ends : (v : VehicleSheet) → judge_vehicle v ≡ Ok tt → TrueEnds v
 true-ends v accepted = sound-ends (accepted-sound v accepted)
 
-pub true-speeds : (v : VehicleSheet) → judge_vehicle v ≡ Accepted → (e : Fraction) → BetweenEnds v e → (i : ℕ) → i + 1 < v.gears → TrueSpeed v e i
+pub true-speeds : (v : VehicleSheet) → judge_vehicle v ≡ Ok tt → (e : Fraction) → BetweenEnds v e → (i : ℕ) → i + 1 < v.gears → TrueSpeed v e i
 true-speeds v accepted = upshift-true (accepted-sound v accepted)
 
-pub true-row : (trace : List ℕ) (v : VehicleSheet) (room start : ℕ) → gear_answer trace v room start ≡ Accepted → TrueRow v trace
+pub true-row : (trace : List ℕ) (v : VehicleSheet) (room start : ℕ) → gear_answer trace v room start ≡ Ok tt → TrueRow v trace
 unfolding gear_answer
 true-row trace v room start accepted =
     let both = then-holds (judge_sheet trace v room start) (judge_close (shift_of v) trace 0 (count_of trace)) accepted in

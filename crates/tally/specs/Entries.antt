@@ -1,12 +1,11 @@
 -- One gas over the records of a lot (02, M-105): "how many passed, failed and were undecided; the sums of lower and of upper ends; the mean's ends rounded
 -- outward; the index .. of the record with the greatest upper end, earliest if several". It is said of a list of entries, one for each record that has the gas,
 -- so that each sentence is said once for every gas.
-use Rattle.std.specs.Prelude.{Bool, cond, not, ◌||◌, List, [], ◌∷◌, ℕ, ◌+◌, eqb, length, ℤ, pos, neg_ℤ}
+use Rattle.std.specs.Prelude.{Bool, cond, not, ◌||◌, List, [], ◌∷◌, ℕ, ◌+◌, eqb, length, ℤ, pos, neg_ℤ, None, Option, Some}
 use Rattle.std.specs.Int.Signed.{le_z, lt_z}
 use Rattle.arith.specs.declared.Ends.{Ends}
 use Rattle.arith.specs.Stages.{exactly, sum_of, divided_by, larger}
 use Rattle.tally.specs.declared.Mean.{Mean}
-use Rattle.tally.specs.declared.Mean.TheVariants.{Nothing, Of}
 use Rattle.tally.specs.declared.GasSheet.{GasSheet}
 
 -- the record's index, the ends, and the verdict's number
@@ -63,9 +62,9 @@ worst_of [] = 0
 worst_of (e ∷ es) = cond (le_z (greatest_of es) e.ends.upper) e.at (worst_of es)
 
 -- ---- "the mean's ends rounded outward"; "An empty list gives .. no mean and no index"
-abbrev pub mean_of : List Entry → Mean
-mean_of [] = Nothing
-mean_of (e ∷ es) = Of (divided_by (sum_over (e ∷ es)) (pos (length (e ∷ es)))) (worst_of (e ∷ es))
+abbrev pub mean_of : List Entry → Option Mean
+mean_of [] = None
+mean_of (e ∷ es) = Some (record { ends = divided_by (sum_over (e ∷ es)) (pos (length (e ∷ es))); worst = worst_of (e ∷ es) })
 
 -- ---- all that is given of a gas
 unfoldable pub gas_sheet : List Entry → GasSheet

@@ -1,9 +1,8 @@
 -- What the code keeps of one gas over some entries, what one entry more makes of it, and what it comes to.
-use Rattle.std.specs.Prelude.{cond, List, [], ◌+◌, ◌-◌, eqb, length, pos}
+use Rattle.std.specs.Prelude.{cond, List, [], ◌+◌, ◌-◌, eqb, length, pos, None, Option, Some}
 use Rattle.std.specs.Int.Signed.{le_z}
 use Rattle.arith.specs.Stages.{sum_of, divided_by, larger}
 use Rattle.tally.specs.declared.Mean.{Mean}
-use Rattle.tally.specs.declared.Mean.TheVariants.{Nothing, Of}
 use Rattle.tally.specs.declared.GasSheet.{GasSheet}
 use Rattle.tally.specs.declared.Tally.{Tally}
 use Rattle.tally.specs.Entries.{Entry, passes, fails, plus_if, how_many, sum_over, greatest_of, worst_of}
@@ -34,8 +33,8 @@ added_to e t =
       sum = sum_of e.ends t.sum;
     }
 
-unfoldable pub mean_by : Tally → Mean
-mean_by t = cond (eqb t.count 0) Nothing (Of (divided_by t.sum (pos t.count)) t.worst)
+unfoldable pub mean_by : Tally → Option Mean
+mean_by t = cond (eqb t.count 0) None (Some (record { ends = divided_by t.sum (pos t.count); worst = t.worst }))
 
 unfoldable pub gas_sheet_by : Tally → GasSheet
 gas_sheet_by t = record { passed = t.passed; failed = t.failed; undecided = t.count - (t.passed + t.failed); sum = t.sum; mean = mean_by t }

@@ -10,21 +10,21 @@ ghost use Rattle.tally.specs.Room.{Roomy};
 
 use arith::Ends;
 
-// The mean's ends in micrograms/km, rounded outward, and the index of the record with the greatest upper end. Of no record there is neither.
+// The mean's ends in micrograms/km, rounded outward, and the index of the record with the greatest upper end.
 #[derive(Clone, Copy)]
-pub enum Mean {
-    Nothing,
-    Of { ends: Ends, worst: u32 },
+pub struct Mean {
+    pub ends: Ends,
+    pub worst: u32,
 }
 
-// A gas of the lot sheet: how many records passed, failed and were undecided, and the sums of their lower and of their upper ends.
+// A gas of the lot sheet: how many records passed, failed and were undecided, and the sums of their lower and of their upper ends. Of no record there is no mean.
 #[derive(Clone, Copy)]
 pub struct GasSheet {
     pub passed: u32,
     pub failed: u32,
     pub undecided: u32,
     pub sum: Ends,
-    pub mean: Mean,
+    pub mean: Option<Mean>,
 }
 
 // What is kept of one gas over some records: how many there are, how many of them passed and failed, the sums, and the index of the one with the greatest upper
@@ -49,28 +49,14 @@ fn is_beyond(n: i64) -> bool
 pub fn is_faulty_ends(e: Ends) -> bool
     ensures { result ≡ faulty_ends e }
 {
-    let lower = e.lower;
-    let upper = e.upper;
-    (upper < lower) | (is_beyond(lower) | is_beyond(upper))
+    (e.upper < e.lower) | (is_beyond(e.lower) | is_beyond(e.upper))
 }
 
 fn plus_if(holds: bool, n: u32) -> u32
     requires { n < 256 }
     ensures { result ≡ plus_if holds n }
 {
-    if holds { n + 1 } else { n }
-}
-
-fn is_at_most(m: i64, n: i64) -> bool
-    ensures { result ≡ le_z m n }
-{
-    m <= n
-}
-
-fn first_or(first: bool, at: u32, worst: u32) -> u32
-    ensures { result ≡ cond first at worst }
-{
-    if first { at } else { worst }
+    n + u32::from(holds)
 }
 
 // A gas of one record more, before the others. An equal upper end is the earlier record's.
@@ -79,13 +65,13 @@ pub fn added(at: u32, ends: Ends, verdict: u32, after: Tally) -> Tally
     requires { (Sized most_end ends) × (Roomy 255 after) }
     ensures { result ≡ added_to (entry at ends verdict) after }
 {
-    let greatest = arith::larger(after.greatest, ends.upper);
+    let is_worst = after.greatest <= ends.upper;
     Tally {
         count: after.count + 1,
         passed: plus_if(verdict == 1, after.passed),
         failed: plus_if(verdict == 2, after.failed),
-        worst: first_or(is_at_most(after.greatest, ends.upper), at, after.worst),
-        greatest,
+        worst: if is_worst { at } else { after.worst },
+        greatest: after.greatest.max(ends.upper),
         sum: arith::sum(ends, after.sum),
     }
 }
@@ -105,18 +91,18 @@ pub fn no_tally() -> Tally
 }
 
 #[tactic(auto, unfolding(crate::specs::Kept::mean_by))]
-fn mean_by(t: Tally) -> Mean
+fn mean_by(t: Tally) -> Option<Mean>
     requires { Roomy 256 t }
     ensures { result ≡ mean_by t }
 {
     let n = t.count;
     if n == 0 {
-        return Mean::Nothing;
+        return None;
     }
-    Mean::Of {
-        ends: arith::divided(t.sum, arith::whole(n)),
+    Some(Mean {
+        ends: arith::divided(t.sum, i64::from(n)),
         worst: t.worst,
-    }
+    })
 }
 
 #[tactic(auto, unfolding(crate::specs::Kept::gas_sheet_by))]
@@ -124,12 +110,11 @@ pub fn gas_sheet_by(t: Tally) -> GasSheet
     requires { Roomy 256 t }
     ensures { result ≡ gas_sheet_by t }
 {
-    let sum = t.sum;
     GasSheet {
         passed: t.passed,
         failed: t.failed,
         undecided: t.count - (t.passed + t.failed),
-        sum,
+        sum: t.sum,
         mean: mean_by(t),
     }
 }

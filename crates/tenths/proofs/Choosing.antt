@@ -17,10 +17,11 @@ use Rattle.arith.proofs.Parts.{zs}
 use Rattle.arith.proofs.Machine.{lt-true}
 use Rattle.shift.specs.declared.Shift.{Shift}
 use Rattle.shift.specs.Speeds.{left_of, side_at, below, above_at, close_at, count, tally_of, own_by, against, by_set1, below_second, by_set2, goes_first, own_gear, Own}
+use Rattle.shift.specs.Accepted.{Worked}
 use Rattle.shift.proofs.Counting.{count_same}
 use Rattle.shift.proofs.Sets.{first, by-sets}
 use Rattle.tenths.specs.declared.LeastTenths.{LeastTenths}
-use Rattle.tenths.specs.Least.{from_zero, least_of, out_of_reach, least_at, first_of, tenths_of, Worked}
+use Rattle.tenths.specs.Least.{from_zero, least_of, out_of_reach, least_at, first_of, tenths_of}
 use Rattle.tenths.specs.Choice.{reached, held, above_held, not_below_held, close_by, own_by_tenths, mark_at, marked}
 use Rattle.tenths.proofs.Places.{here, place_here, place-past}
 use Rattle.tenths.proofs.Counting.{count_none, none-holds, count-rest, count-split, differ}

@@ -1,4 +1,4 @@
--- What an accepted sheet gives the tenths, and how many tenths there can be. Assumes nothing.
+-- How many tenths there can be. Assumes nothing.
 use Prim.Native.Nat.{ℕ, ◌*◌, ◌≤◌}
 use native.Mathlib.Omega.{arith}
 use lib.IntN.{nat_abs}
@@ -6,17 +6,8 @@ use Rattle.arith.specs.declared.Ends.{Ends}
 use Rattle.arith.specs.Fitting.{Sized}
 use Rattle.arith.specs.Rounding.{div_down, div_up}
 use Rattle.arith.proofs.Size.{down-size, up-size}
-use Rattle.vehicle.specs.declared.VehicleSheet.{VehicleSheet}
-use Rattle.vehicle.specs.Sheet.{Sound}
-use Rattle.shift.specs.Speeds.{shift_of}
-use Rattle.shift.proofs.Sides.{shift-ranges}
-use Rattle.speeds.specs.Upshifts.{largest_side}
-use Rattle.speeds.proofs.Sizes.{vehicle-geared}
-use Rattle.tenths.specs.Least.{tenth, Worked}
-
-pub vehicle-worked : {v : VehicleSheet} → Sound v → Worked (shift_of v)
-unfolding shift_of
-vehicle-worked sound = record { geared = vehicle-geared sound; ranges = shift-ranges sound; ratios = λ i l. (sound.ndv i l).0 }
+use Rattle.shift.specs.Accepted.{largest_side}
+use Rattle.tenths.specs.Least.{tenth}
 
 -- the most tenths, at the lowest ndv
 most : ℕ

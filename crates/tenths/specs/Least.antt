@@ -1,12 +1,11 @@
 -- 02, M-106: the shift speeds of a vehicle in whole tenths of a km/h: "the least tenth of a km/h above each (at or above, for rule set 2's 2 to 1 speed), with a mark where
 -- a tenth is too close". Gears and shift speeds count from 0 here.
-use Rattle.std.specs.Prelude.{cond, ℕ, ◌+◌, ◌-◌, ◌*◌, ◌^◌, ◌≤◌, ◌<◌, get_or, eqb, ltb, ℤ, pos, negsuc, ◌+ℤ◌}
+use Rattle.std.specs.Prelude.{cond, ℕ, ◌+◌, ◌-◌, ◌*◌, ◌^◌, get_or, eqb, ltb, ℤ, pos, negsuc, ◌+ℤ◌}
 use Rattle.walk.specs.Walk.{listed}
 use Rattle.arith.specs.declared.Ends.{Ends}
 use Rattle.arith.specs.Rounding.{div_down, div_up}
 use Rattle.shift.specs.declared.Shift.{Shift}
-use Rattle.shift.specs.Speeds.{side_at, ShiftRanges}
-use Rattle.speeds.specs.Upshifts.{Geared}
+use Rattle.shift.specs.Speeds.{side_at}
 use Rattle.tenths.specs.declared.Tenths.{Tenths}
 use Rattle.tenths.specs.declared.LeastTenths.{LeastTenths}
 
@@ -50,9 +49,3 @@ tenths_of s =
       gears = s.gears;
       first = first_of s;
     }
-
--- what the shift speeds of an accepted sheet have
-pub record Worked (s : Shift) : Type 0 where
-  pub geared : Geared s
-  pub ranges : ShiftRanges s
-  pub ratios : (i : ℕ) → i < s.gears → 1000 ≤ get_or s.ndv i 0

@@ -1,17 +1,16 @@
 // The shift speeds of a vehicle in whole tenths of a km/h, the unit of a second's speed, and the gear of a speed by them (02, M-106).
 #![tactic(auto)]
 
-ghost use Rattle.std.specs.Prelude.{◌≡◌, cond, ◌≤◌, ◌<◌, pos, ◌≤ℤ◌};
+ghost use Rattle.std.specs.Prelude.{◌≡◌, ◌≤◌, ◌<◌, pos, ◌≤ℤ◌};
 ghost use Rattle.arith.specs.Fitting.{Sized};
-ghost use Rattle.vehicle.specs.Sheet.{Sound};
 ghost use Rattle.shift.specs.Speeds.{shift_of};
-ghost use Rattle.speeds.specs.Upshifts.{largest_side};
-ghost use Rattle.tenths.specs.Least.{tenth, from_zero, least_of, least_at, not_below, first_of, tenths_of, Worked};
+ghost use Rattle.shift.specs.Accepted.{largest_side};
+ghost use Rattle.tenths.specs.Least.{tenth, from_zero, least_of, least_at, not_below, first_of, tenths_of};
 ghost use Rattle.tenths.specs.Choice.{reached, held, own_by_tenths, marked};
 
 use arith::Ends;
-use shift::Shift;
-use vehicle::VehicleSheet;
+use shift::VehicleShift;
+use vehicle::Vehicle;
 
 // Of one shift speed: the least tenth above it, and the least that is not below it.
 #[repr(C)]
@@ -38,7 +37,7 @@ fn tenth(ndv: u32) -> i64
     requires { ndv ≤ 100000 }
     ensures { result ≡ tenth ndv }
 {
-    42949672960 * arith::whole(ndv)
+    42949672960 * i64::from(ndv)
 }
 
 fn from_zero(n: i64) -> u16
@@ -64,10 +63,11 @@ fn least(side: Ends, ndv: u32) -> LeastTenths
 
 // Of the upshift from gear i; past the last what no speed reaches.
 #[tactic(auto, unfolding(crate::specs::Least::least_at))]
-fn least_at(s: Shift, i: usize) -> LeastTenths
-    requires { (Worked s) × (i < 7) }
-    ensures { result ≡ least_at s i }
+fn least_at(v: VehicleShift, i: usize) -> LeastTenths
+    requires { i < 7 }
+    ensures { result ≡ least_at v.shift i }
 {
+    let s = v.shift;
     let ndv = s.ndv;
     if i + 1 < s.gears as usize {
         return least(shift::side_at(s.first, s.higher, i), ndv[i]);
@@ -83,14 +83,14 @@ pub fn not_below(lowest: u64, ndv: u32) -> u16
     requires { (lowest ≤ 3600000) × (1000 ≤ ndv) }
     ensures { result ≡ not_below lowest ndv }
 {
-    from_zero(arith::div_up(lowest as i64, arith::whole(ndv)))
+    from_zero(arith::div_up(lowest as i64, i64::from(ndv)))
 }
 
 #[tactic(auto, unfolding(crate::specs::Least::first_of))]
-fn first(s: Shift) -> u16
-    requires { Worked s }
-    ensures { result ≡ first_of s }
+fn first(v: VehicleShift) -> u16
+    ensures { result ≡ first_of v.shift }
 {
+    let s = v.shift;
     let ndv = s.ndv;
     if s.rules == 2 {
         return not_below(s.lowest, ndv[1]);
@@ -99,42 +99,32 @@ fn first(s: Shift) -> u16
 }
 
 #[tactic(auto, unfolding(crate::specs::Least::tenths_of))]
-fn tenths_of(s: Shift) -> Tenths
-    requires { Worked s }
-    ensures { result ≡ tenths_of s }
+fn tenths_of(v: VehicleShift) -> Tenths
+    ensures { result ≡ tenths_of v.shift }
 {
     let mut above = [0; 7];
     let mut not_below = [0; 7];
-    let mut i = 0;
-    while i < 7 {
-        let one = least_at(s, i);
+    for i in 0..7 {
+        let one = least_at(v, i);
         // a field of a struct is stored from a local, the form that the prover covers
         let over = one.above;
         let from = one.not_below;
         above[i] = over;
         not_below[i] = from;
-        i += 1;
     }
     Tenths {
         above,
         not_below,
-        last: least_at(s, s.gears as usize - 2),
-        gears: s.gears,
-        first: first(s),
+        last: least_at(v, v.shift.gears as usize - 2),
+        gears: v.shift.gears,
+        first: first(v),
     }
 }
 
-pub fn of_vehicle(v: VehicleSheet) -> Tenths
-    requires { Sound v }
-    ensures { result ≡ tenths_of (shift_of v) }
+pub fn of_vehicle(v: Vehicle) -> Tenths
+    ensures { result ≡ tenths_of (shift_of v.sheet) }
 {
     tenths_of(shift::shift_of(v))
-}
-
-fn one_if(holds: bool) -> u8
-    ensures { (result ≡ cond holds 1 0) × (result ≤ 1) }
-{
-    if holds { 1 } else { 0 }
 }
 
 // How many of the seven a speed has reached. Always seven, and no exit: so the compiler works on many seconds at once.
@@ -143,10 +133,8 @@ fn reached(least: [u16; 7], speed: u16) -> u8
     ensures { (result ≡ reached least speed 7) × (result ≤ 7) }
 {
     let mut count = 0;
-    let mut i = 0;
-    while i < 7 {
-        count += one_if(least[i] <= speed);
-        i += 1;
+    for i in 0..7 {
+        count += u8::from(least[i] <= speed);
     }
     count
 }
@@ -157,11 +145,11 @@ fn held(least: [u16; 7], last: u16, accelerating: bool, speed: u16) -> u8
     ensures { (result ≡ held least last accelerating speed) × (result ≤ 7) }
 {
     let all = reached(least, speed);
-    let top = one_if(last <= speed);
+    let top = u8::from(last <= speed);
     if accelerating {
         return all;
     }
-    if all < top { 0 } else { all - top }
+    all.saturating_sub(top)
 }
 
 // The gear of a second outside stop by the sheet's rule set, before corrections.
@@ -197,10 +185,8 @@ pub fn is_marked(t: Tenths) -> bool
     let above = t.above;
     let not_below = t.not_below;
     let mut marks = 0;
-    let mut i = 0;
-    while i < 7 {
-        marks += one_if(not_below[i] < above[i]);
-        i += 1;
+    for i in 0..7 {
+        marks += u8::from(not_below[i] < above[i]);
     }
     0 < marks
 }

@@ -6,10 +6,9 @@ use Prim.Native.Nat.{ℕ, ◌+◌, ◌*◌, ◌≤◌}
 use lib.ListN.{length}
 use lib.Dec.{eqb, leb}
 use borrow.Author.Tests.{leb-true, le-leb, eqb-true, eq-eqb}
-use Rattle.refusal.specs.declared.Judged.{Judged}
-use Rattle.refusal.specs.declared.Judged.TheVariants.{Accepted}
+use Rattle.std.specs.Prelude.{Ok}
+use Rattle.refusal.specs.Judging.{Judged, checked, Check, and_then}
 use Rattle.refusal.specs.declared.Refusal.TheVariants.{Header, Count, Length}
-use Rattle.refusal.specs.Judging.{checked, Check, and_then}
 use Rattle.refusal.proofs.Ranges.{both}
 use Rattle.refusal.proofs.Judging.{checked-holds, checked_all-then}
 use Rattle.house.specs.House.{count_of}
@@ -23,7 +22,7 @@ module _ (known : Bool) (file : List ℕ) (seconds : Judged) where
       ∷ record { holds = eqb (length file) (8 + 4 * count_of file); refusal = Length }
       ∷ []
 
-  pub seconds-then : judge_file known file seconds ≡ and_then (judge_file known file Accepted) seconds
+  pub seconds-then : judge_file known file seconds ≡ and_then (judge_file known file (Ok tt)) seconds
   seconds-then = checked_all-then checks seconds
 
   pub record Passed : Type 0 where
@@ -31,9 +30,9 @@ module _ (known : Bool) (file : List ℕ) (seconds : Judged) where
     pub some : 1 ≤ count_of file
     pub few : count_of file ≤ 2000
     pub exact : length file ≡ 8 + 4 * count_of file
-    pub all : seconds ≡ Accepted
+    pub all : seconds ≡ Ok tt
 
-  pub passed : judge_file known file seconds ≡ Accepted → Passed
+  pub passed : judge_file known file seconds ≡ Ok tt → Passed
   passed e =
       let n = count_of file in
       let lengths = checked (eqb (length file) (8 + 4 * n)) Length seconds in

@@ -9,10 +9,9 @@ use lib.ListN.{length, get_or, length-set, get_or-eq_default}
 use lib.Seq.{get_or-set_same, get_or-set_other}
 use lib.Dec.{eqb, leb}
 use borrow.Author.Tests.{eqb-false, le-leb, lt-leb}
-use Rattle.refusal.specs.declared.Judged.{Judged}
-use Rattle.refusal.specs.declared.Judged.TheVariants.{Accepted, Refused}
+use Rattle.std.specs.Prelude.{Ok, Err}
+use Rattle.refusal.specs.Judging.{Judged, checked}
 use Rattle.refusal.specs.declared.Refusal.TheVariants.{Header, Count, Length, Marked}
-use Rattle.refusal.specs.Judging.{checked}
 use Rattle.walk.proofs.Same.{scan-same, scan_good}
 use Rattle.house.specs.House.{version_of, readable, allows, headed, count_of, speed_at, flags_at, zero_at, no_shift, no_first, marked, marked_at, second_good}
 use Rattle.house.proofs.Versions.{or-false}
@@ -119,5 +118,5 @@ module _ (trace : List ℕ) (plain : Plain trace) where
 
   pub marks-same : judge_marks second 0 (count_of second) ≡ judge_marks trace 0 (count_of trace)
   marks-same =
-      scan_good (λ k. Refused (Marked (k + 1))) (λ k. Accepted) (λ k. not (marked_at second k)) 0 (count_of second) (λ j l. unmarked-second j)
-      ∙ sym (scan_good (λ k. Refused (Marked (k + 1))) (λ k. Accepted) (λ k. not (marked_at trace k)) 0 (count_of trace) (λ j l. unmarked-first j (omega arith)))
+      scan_good (λ k. Err (Marked (k + 1))) (λ k. Ok tt) (λ k. not (marked_at second k)) 0 (count_of second) (λ j l. unmarked-second j)
+      ∙ sym (scan_good (λ k. Err (Marked (k + 1))) (λ k. Ok tt) (λ k. not (marked_at trace k)) 0 (count_of trace) (λ j l. unmarked-first j (omega arith)))

@@ -3,8 +3,8 @@ use mathlib.Core.Path.{◌≡◌, refl}
 use mathlib.Core.Bool.{true, false}
 use mathlib.Core.List.{List, [], ◌∷◌}
 use Prim.Native.Nat.{ℕ}
-use Rattle.refusal.specs.declared.Judged.{Judged}
-use Rattle.refusal.specs.declared.Judged.TheVariants.{Accepted, Refused}
+use Rattle.std.specs.Prelude.{Ok, Err}
+use Rattle.refusal.specs.Judging.{Judged}
 use Rattle.refusal.specs.declared.Refusal.TheVariants.{Vehicle, Ratio, PowerToMass}
 use Rattle.vehicle.specs.declared.VehicleSheet.{VehicleSheet}
 use Rattle.vehicle.specs.Sheet.{judge_vehicle}
@@ -18,21 +18,21 @@ abbrev gears : List ℕ
 gears = 100000 ∷ 1001 ∷ 1000 ∷ 0 ∷ 0 ∷ 0 ∷ 0 ∷ 0 ∷ []
 
 -- 7: "19 P <= 150 (m + 75)": 150 and 15.0 kW at 115 kg, and a step more
-power-to-mass : (sheet 1500 115 1000 300 gears ≡ Accepted) × (sheet 1501 115 1000 300 gears ≡ Refused PowerToMass)
+power-to-mass : (sheet 1500 115 1000 300 gears ≡ Ok tt) × (sheet 1501 115 1000 300 gears ≡ Err PowerToMass)
 unfolding judge_vehicle
 power-to-mass = (refl, refl)
 
 -- 5, place 4: "at most s - 500"
-idle-below-rated : (sheet 1 30 1000 500 gears ≡ Accepted) × (sheet 1 30 1000 501 gears ≡ Refused (Vehicle 4))
+idle-below-rated : (sheet 1 30 1000 500 gears ≡ Ok tt) × (sheet 1 30 1000 501 gears ≡ Err (Vehicle 4))
 unfolding judge_vehicle
 idle-below-rated = (refl, refl)
 
 -- 5, places 5 + gear; 6: "strictly falling"
-gears-in-range : (sheet 1 30 1000 300 (100001 ∷ 1001 ∷ 1000 ∷ []) ≡ Refused (Vehicle 6)) × (sheet 1 30 1000 300 (100000 ∷ 1001 ∷ 999 ∷ []) ≡ Refused (Vehicle 8))
+gears-in-range : (sheet 1 30 1000 300 (100001 ∷ 1001 ∷ 1000 ∷ []) ≡ Err (Vehicle 6)) × (sheet 1 30 1000 300 (100000 ∷ 1001 ∷ 999 ∷ []) ≡ Err (Vehicle 8))
 unfolding judge_vehicle
 gears-in-range = (refl, refl)
 
-gears-falling : (sheet 1 30 1000 300 (1001 ∷ 1001 ∷ 1000 ∷ []) ≡ Refused (Ratio 2)) × (sheet 1 30 1000 300 (1002 ∷ 1001 ∷ 1001 ∷ []) ≡ Refused (Ratio 3))
+gears-falling : (sheet 1 30 1000 300 (1001 ∷ 1001 ∷ 1000 ∷ []) ≡ Err (Ratio 2)) × (sheet 1 30 1000 300 (1002 ∷ 1001 ∷ 1001 ∷ []) ≡ Err (Ratio 3))
 unfolding judge_vehicle
 gears-falling = (refl, refl)
 
@@ -41,17 +41,17 @@ abbrev by_set : ℕ → ℕ → List ℕ → Judged
 by_set rules power ndv = judge_vehicle (record { power = power; mass = 115; rated = 1000; idle = 300; gears = 3; ndv = ndv; rules = rules })
 
 rule-sets :
-    (by_set 0 1500 gears ≡ Refused (Vehicle 14))
-    × (by_set 1 1500 gears ≡ Accepted)
-    × (by_set 2 1500 gears ≡ Accepted)
-    × (by_set 3 1500 gears ≡ Refused (Vehicle 14))
+    (by_set 0 1500 gears ≡ Err (Vehicle 14))
+    × (by_set 1 1500 gears ≡ Ok tt)
+    × (by_set 2 1500 gears ≡ Ok tt)
+    × (by_set 3 1500 gears ≡ Err (Vehicle 14))
 unfolding judge_vehicle
 rule-sets = (refl, refl, refl, refl)
 
 rule-set-in-order :
-    (by_set 3 1501 (1001 ∷ 1001 ∷ 1000 ∷ []) ≡ Refused (Vehicle 14))
-    × (by_set 2 1501 (1001 ∷ 1001 ∷ 1000 ∷ []) ≡ Refused (Ratio 2))
-    × (by_set 3 1500 (1002 ∷ 1001 ∷ 999 ∷ []) ≡ Refused (Vehicle 8))
+    (by_set 3 1501 (1001 ∷ 1001 ∷ 1000 ∷ []) ≡ Err (Vehicle 14))
+    × (by_set 2 1501 (1001 ∷ 1001 ∷ 1000 ∷ []) ≡ Err (Ratio 2))
+    × (by_set 3 1500 (1002 ∷ 1001 ∷ 999 ∷ []) ≡ Err (Vehicle 8))
 unfolding judge_vehicle
 rule-set-in-order = (refl, refl, refl)
 

@@ -4,7 +4,7 @@ use mathlib.Core.Bool.{Bool, true, false}
 use Prim.Native.Nat.{ℕ, ◌+◌, ◌-◌, ◌*◌, ◌<◌}
 use lib.Dec.{leb}
 use borrow.Author.Tests.{leb-true, ltb-true}
-use Rattle.refusal.specs.declared.Judged.TheVariants.{Accepted}
+use Rattle.std.specs.Prelude.{Ok}
 use Rattle.refusal.specs.declared.Refusal.TheVariants.{PowerToMass}
 use Rattle.refusal.specs.Ranges.{within}
 use Rattle.refusal.specs.Judging.{checked, judged_by, and_then}
@@ -14,7 +14,7 @@ use Rattle.walk.proofs.Walk.{all-good}
 use Rattle.vehicle.specs.declared.VehicleSheet.{VehicleSheet}
 use Rattle.vehicle.specs.Sheet.{engine_checks, ndv_at, gear_good, judge_gears, rule_checks, mild, judge_vehicle, Ranged, Sound}
 
-pub engine-ranged : (v : VehicleSheet) → judged_by (engine_checks v) ≡ Accepted → Ranged v
+pub engine-ranged : (v : VehicleSheet) → judged_by (engine_checks v) ≡ Ok tt → Ranged v
 engine-ranged v e =
     let h = judged-holds (engine_checks v) e in
     let i = both (within 300 3000 v.idle) (leb (v.idle + 500) v.rated) h.1.1.1.0 in
@@ -27,10 +27,10 @@ engine-ranged v e =
       gears = range 3 8 v.gears h.1.1.1.1.0;
     }
 
-pub accepted-sound : (v : VehicleSheet) → judge_vehicle v ≡ Accepted → Sound v
+pub accepted-sound : (v : VehicleSheet) → judge_vehicle v ≡ Ok tt → Sound v
 unfolding judge_vehicle
 accepted-sound v e =
-    let last = checked (mild v) PowerToMass Accepted in
+    let last = checked (mild v) PowerToMass (Ok tt) in
     let ratios = judge_gears false v.ndv 0 v.gears in
     let falls = judge_gears true v.ndv 0 (v.gears - 1) in
     let set = judged_by (rule_checks v) in
@@ -38,12 +38,12 @@ accepted-sound v e =
     let gears = then-holds ratios (and_then set (and_then falls last)) engine.1 in
     let rules = then-holds set (and_then falls last) gears.1 in
     let fall = then-holds falls last rules.1 in
-    let good : (falling : Bool) (n : ℕ) → judge_gears falling v.ndv 0 n ≡ Accepted → (i : ℕ) → i < n → gear_good falling v.ndv i ≡ true =
-    λ falling. all-good (gear_good falling v.ndv) _ _ Accepted (λ i. refused-not) in
+    let good : (falling : Bool) (n : ℕ) → judge_gears falling v.ndv 0 n ≡ Ok tt → (i : ℕ) → i < n → gear_good falling v.ndv i ≡ true =
+    λ falling. all-good (gear_good falling v.ndv) _ _ (Ok tt) (λ i. refused-not) in
     record {
       ranged = engine-ranged v engine.0;
       ndv = λ i l. range 1000 100000 (ndv_at v.ndv i) (good false v.gears gears.0 i l);
       rules = range 1 2 v.rules (judged-holds (rule_checks v) rules.0).0;
       fall = λ i l. ltb-true (ndv_at v.ndv (i + 1)) (ndv_at v.ndv i) (good true (v.gears - 1) fall.0 i l);
-      mild = leb-true (19 * v.power) (150 * (v.mass + 75)) (checked-holds (mild v) PowerToMass Accepted fall.1).0;
+      mild = leb-true (19 * v.power) (150 * (v.mass + 75)) (checked-holds (mild v) PowerToMass (Ok tt) fall.1).0;
     }

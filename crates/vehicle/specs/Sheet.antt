@@ -1,11 +1,9 @@
 -- 01, Shift speeds, and 02, M-101: the vehicle sheet, and refusals 5, 6 and 7. Gears count from 0 here, and from 1 where a refusal names one.
-use Rattle.std.specs.Prelude.{Bool, true, false, ◌&&◌, List, [], ◌∷◌, ◌≡◌, ℕ, ◌+◌, ◌-◌, ◌*◌, ◌≤◌, ◌<◌, get_or, leb, ltb}
+use Rattle.std.specs.Prelude.{Bool, true, false, ◌&&◌, List, [], ◌∷◌, ◌≡◌, ℕ, ◌+◌, ◌-◌, ◌*◌, ◌≤◌, ◌<◌, get_or, leb, ltb, Ok, Err}
 use Rattle.refusal.specs.declared.Refusal.{Refusal}
 use Rattle.refusal.specs.declared.Refusal.TheVariants.{Vehicle, Ratio, PowerToMass}
-use Rattle.refusal.specs.declared.Judged.{Judged}
-use Rattle.refusal.specs.declared.Judged.TheVariants.{Accepted, Refused}
+use Rattle.refusal.specs.Judging.{Judged, checked, Check, judged_by, and_then}
 use Rattle.refusal.specs.Ranges.{within}
-use Rattle.refusal.specs.Judging.{checked, Check, judged_by, and_then}
 use Rattle.walk.specs.Walk.{scan}
 use Rattle.vehicle.specs.declared.VehicleSheet.{VehicleSheet}
 
@@ -38,7 +36,7 @@ gear_refusal true i = Ratio (i + 2)
 
 -- the first of n gears that is wrong, from gear i on
 abbrev pub judge_gears : Bool → List ℕ → ℕ → ℕ → Judged
-judge_gears falling ndv = scan (gear_good falling ndv) (λ i. Refused (gear_refusal falling i)) (λ i. Accepted)
+judge_gears falling ndv = scan (gear_good falling ndv) (λ i. Err (gear_refusal falling i)) (λ i. Ok tt)
 
 -- 5, place 14 (02, M-101): the rule set, "1 or 2"
 abbrev pub rule_checks : VehicleSheet → List Check
@@ -55,7 +53,7 @@ judge_vehicle v =
     (and_then (judge_gears false v.ndv 0 v.gears)
     (and_then (judged_by (rule_checks v))
     (and_then (judge_gears true v.ndv 0 (v.gears - 1))
-    (checked (mild v) PowerToMass Accepted))))
+    (checked (mild v) PowerToMass (Ok tt)))))
 
 -- the n gears are there, and where each is held against the next, those too
 pub record Reach (falling : Bool) (n : ℕ) : Type 0 where

@@ -4,11 +4,14 @@
 ghost use Rattle.std.specs.Prelude.{◌≡◌, ◌&&◌, ◌+◌, ◌-◌, ◌<◌, leb};
 ghost use Rattle.refusal.specs.Ranges.{within};
 ghost use Rattle.refusal.specs.Judging.{checked, judged_by};
-ghost use Rattle.refusal.specs.declared.Refusal.TheVariants.{Vehicle};
 ghost use Rattle.vehicle.specs.Engine.{ndv_of, lowest_engine_speed, below_lowest};
 ghost use Rattle.vehicle.specs.Sheet.{engine_checks, gear_good, gear_refusal, judge_gears, judge_vehicle, Reach};
+ghost use Rattle.vehicle.specs.Accepted.{Accepted};
 
-use refusal::{Judged, Refusal};
+mod accepted;
+
+pub use accepted::Vehicle;
+use refusal::Refusal;
 
 // Power in 0.1 kW, mass in kg, rated and idle speed per minute, of each gear ndv in 0.01 per minute per km/h, and the rule set: 1 for global technical
 // regulation No. 2, 2 for chapter 2W-II of document 004. Only the first `gears` of ndv are read. It crosses the C boundary as it is.
@@ -24,37 +27,36 @@ pub struct VehicleSheet {
     pub rules: u32,
 }
 
-fn ranged(field: u32, least: u32, most: u32, n: u32, rest: Judged) -> Judged
-    ensures { result ≡ checked (within least most n) (Vehicle field) rest }
+fn ranged(field: u32, least: u32, most: u32, n: u32) -> Result<(), Refusal>
+    ensures { result ≡ checked (within least most n) (Refusal.Vehicle field) (Ok tt) }
 {
-    refusal::check((least <= n) & (n <= most), Refusal::Vehicle { field }, rest)
+    refusal::check((least <= n) & (n <= most), Refusal::Vehicle { field })
 }
 
 // The idle's own range, and 500 below the rated speed.
-fn idle_ranged(idle: u32, rated: u32, rest: Judged) -> Judged
-    ensures { result ≡ checked (within 300 3000 idle && leb (idle + 500) rated) (Vehicle 4) rest }
+fn idle_ranged(idle: u32, rated: u32) -> Result<(), Refusal>
+    ensures { result ≡ checked (within 300 3000 idle && leb (idle + 500) rated) (Refusal.Vehicle 4) (Ok tt) }
 {
     let low = idle as u64;
     let high = rated as u64;
     refusal::check(
         (300 <= idle) & (idle <= 3000) & (low + 500 <= high),
         Refusal::Vehicle { field: 4 },
-        rest,
     )
 }
 
 // Refusal 5, places 1 to 5.
-fn judge_engine(v: VehicleSheet) -> Judged
+fn judge_engine(v: VehicleSheet) -> Result<(), Refusal>
     ensures { result ≡ judged_by (engine_checks v) }
 {
-    let gears = ranged(5, 3, 8, v.gears, Judged::Accepted);
-    let idle = idle_ranged(v.idle, v.rated, gears);
-    let rated = ranged(3, 1000, 20000, v.rated, idle);
-    let mass = ranged(2, 30, 1000, v.mass, rated);
-    ranged(1, 1, 3000, v.power, mass)
+    ranged(1, 1, 3000, v.power)?;
+    ranged(2, 30, 1000, v.mass)?;
+    ranged(3, 1000, 20000, v.rated)?;
+    idle_ranged(v.idle, v.rated)?;
+    ranged(5, 3, 8, v.gears)
 }
 
-// Gear i in its range, or above the next one.
+// Gear i in its range, or above the next one. Which is asked by a flag and not by a closure: the first wrong gear of either kind is one definition over it (`judge_gears`).
 fn gear_good(falling: bool, ndv: [u32; 8], i: usize) -> bool
     requires { Reach falling (i + 1) }
     ensures { result ≡ gear_good falling ndv i }
@@ -78,50 +80,40 @@ fn gear_refusal(falling: bool, i: usize) -> Refusal
 }
 
 // Refusal 5, the places of the gears, and refusal 6: the first wrong one of n.
-fn judge_gears(falling: bool, ndv: [u32; 8], n: usize) -> Judged
+fn judge_gears(falling: bool, ndv: [u32; 8], n: usize) -> Result<(), Refusal>
     requires { Reach falling n }
     ensures { result ≡ judge_gears falling ndv 0 n }
 {
-    let mut i = 0;
-    while i < n {
+    for i in 0..n {
         if !gear_good(falling, ndv, i) {
-            return Judged::Refused(gear_refusal(falling, i));
+            return Err(gear_refusal(falling, i));
         }
-        i += 1;
     }
-    Judged::Accepted
+    Ok(())
 }
 
 // Refusals 5, 6 and 7.
 #[tactic(auto, unfolding(crate::specs::Sheet::judge_vehicle))]
-pub fn judge(v: VehicleSheet) -> Judged
+fn judge(v: VehicleSheet) -> Result<(), Refusal>
     ensures { result ≡ judge_vehicle v }
 {
-    let engine = judge_engine(v);
-    let Judged::Accepted = engine else {
-        return engine;
-    };
+    judge_engine(v)?;
     let ndv = v.ndv;
     let gears = v.gears as usize;
-    let ratios = judge_gears(false, ndv, gears);
-    let Judged::Accepted = ratios else {
-        return ratios;
-    };
-    let rules = ranged(14, 1, 2, v.rules, Judged::Accepted);
-    let Judged::Accepted = rules else {
-        return rules;
-    };
-    let fall = judge_gears(true, ndv, gears - 1);
-    let Judged::Accepted = fall else {
-        return fall;
-    };
+    judge_gears(false, ndv, gears)?;
+    ranged(14, 1, 2, v.rules)?;
+    judge_gears(true, ndv, gears - 1)?;
     let power = v.power as u64;
     let mass = v.mass as u64;
-    refusal::check(
-        19 * power <= 150 * (mass + 75),
-        Refusal::PowerToMass,
-        Judged::Accepted,
-    )
+    refusal::check(19 * power <= 150 * (mass + 75), Refusal::PowerToMass)
+}
+
+// Refusals 5 to 7, or the vehicle.
+pub fn read(v: VehicleSheet) -> Result<Vehicle, Refusal>
+    ensures { Accepted v (judge_vehicle v) result }
+{
+    judge(v)?;
+    Ok(Vehicle { sheet: v })
 }
 
 // The ndv of a gear as a row names it; 0 for neutral, and for what is no gear.
@@ -135,19 +127,12 @@ fn ndv_of(ndv: [u32; 8], gear: u8) -> u32
     0
 }
 
-// s - n, and 0 of a sheet that has them the other way round.
-fn span(rated: u32, idle: u32) -> u32
-    ensures { result ≡ rated - idle }
-{
-    if rated < idle { 0 } else { rated - idle }
-}
-
-// n + 0.03 (s - n), in 0.001 per minute (001, 6.5.5.2.1.3).
+// n + 0.03 (s - n), in 0.001 per minute (001, 6.5.5.2.1.3). Of a sheet that has s and n the other way round, s - n is 0.
 pub fn lowest_engine_speed(v: VehicleSheet) -> u64
     ensures { result ≡ lowest_engine_speed v }
 {
     let idle = v.idle as u64;
-    let over = span(v.rated, v.idle) as u64;
+    let over = v.rated.saturating_sub(v.idle) as u64;
     1000 * idle + 30 * over
 }
 

@@ -7,7 +7,7 @@ ghost use Rattle.bag.specs.Fields.{most_limit};
 ghost use Rattle.weigh.specs.Test.{weights_of, weighted_of, fuel_of, verdict_of};
 ghost use Rattle.weigh.specs.Ranges.{WeightedRanges, FuelRanges};
 
-use arith::{Ends, divided, scaled, whole};
+use arith::{Ends, divided, scaled};
 
 // The weights of a test's parts, in percent. A class of two parts has 0 for the third.
 #[derive(Clone, Copy)]
@@ -40,8 +40,7 @@ pub fn weights_of(class: u32) -> Weights
     requires { (1 ≤ class) × (class ≤ 3) }
     ensures { result ≡ weights_of class }
 {
-    let row = (class - 1) as usize;
-    WEIGHTS[row]
+    WEIGHTS[(class - 1) as usize]
 }
 
 // A gas over the whole test, in micrograms/km, from its rates in the parts.
@@ -70,16 +69,14 @@ pub fn fuel(k: u32, f1: u32, f2: u32, f3: u32, density: u32, hc: Ends, co: Ends,
     ensures { result ≡ fuel_of k f1 f2 f3 density hc co co2 }
 {
     let carbon = stage::combination(f1, hc, f2, co, f3, co2);
-    divided(scaled(whole(k), carbon), whole(10000 * density))
+    divided(scaled(i64::from(k), carbon), i64::from(10000 * density))
 }
 
-// A gas that the test does not have has no verdict.
 #[derive(Clone, Copy)]
 pub enum Verdict {
     Pass,
     Fail,
     Undecided,
-    NoVerdict,
 }
 
 // How a weighted gas stands to its limit. The limit comes as the sheet has it, unsigned and up to 10^12, and is made signed here once.

@@ -3,7 +3,7 @@ use mathlib.Core.Path.{◌≡◌, refl}
 use mathlib.Core.List.{List, [], ◌∷◌}
 use Prim.Native.Nat.{ℕ}
 use lib.ListN.{set, take}
-use Rattle.refusal.specs.declared.Judged.TheVariants.{Accepted, Refused}
+use Rattle.std.specs.Prelude.{Ok, Err}
 use Rattle.refusal.specs.declared.Refusal.TheVariants.{Count, Second, Room}
 use Rattle.house.specs.Written.{seconds_to}
 use Rattle.writer.specs.Writer.{write_answer, write_buffer}
@@ -22,19 +22,19 @@ unfolding write_buffer write_answer seconds_to
 two-written = refl
 
 -- 2: no second, and a speed without its phase, before any other fault
-no-count : (write_answer [] 17 ≡ Refused Count) × (write_answer (take 3 seconds) 17 ≡ Refused Count) × (write_answer (2001 ∷ []) 0 ≡ Refused Count)
+no-count : (write_answer [] 17 ≡ Err Count) × (write_answer (take 3 seconds) 17 ≡ Err Count) × (write_answer (2001 ∷ []) 0 ≡ Err Count)
 unfolding write_answer
 no-count = (refl, refl, refl)
 
 -- 4: 200.1 km/h, a phase of 4, in 16 bits of 256; the first is named, before the room
-no_second : (write_answer (set seconds 0 2000) 17 ≡ Accepted) × (write_answer (set seconds 0 2001) 0 ≡ Refused (Second 1))
-    × (write_answer (set seconds 3 4) 0 ≡ Refused (Second 2)) × (write_answer (set seconds 3 256) 17 ≡ Refused (Second 2))
-    × (write_answer (set (set seconds 3 4) 1 4) 17 ≡ Refused (Second 1))
+no_second : (write_answer (set seconds 0 2000) 17 ≡ Ok tt) × (write_answer (set seconds 0 2001) 0 ≡ Err (Second 1))
+    × (write_answer (set seconds 3 4) 0 ≡ Err (Second 2)) × (write_answer (set seconds 3 256) 17 ≡ Err (Second 2))
+    × (write_answer (set (set seconds 3 4) 1 4) 17 ≡ Err (Second 1))
 unfolding write_answer
 no_second = (refl, refl, refl, refl, refl)
 
 -- 8: 16 bytes do, 15 do not
-no_room : (write_answer seconds 16 ≡ Accepted) × (write_answer seconds 15 ≡ Refused Room)
+no_room : (write_answer seconds 16 ≡ Ok tt) × (write_answer seconds 15 ≡ Err Room)
 unfolding write_answer
 no_room = (refl, refl)
 

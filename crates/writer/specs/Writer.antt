@@ -1,10 +1,8 @@
 -- The writer of a trace of version 2 (02, M-109): from seconds into a lent buffer. The seconds are lent in one list of numbers, each its speed in 0.1 km/h and
 -- then its phase.
-use Rattle.std.specs.Prelude.{ℕ, ◌+◌, ◌*◌, ◌/◌, ◌%◌, ◌≤◌, ◌≡◌, Bool, ◌&&◌, List, ◌++◌, length, get_or, take, drop, eqb, leb}
-use Rattle.refusal.specs.declared.Judged.{Judged}
-use Rattle.refusal.specs.declared.Judged.TheVariants.{Accepted, Refused}
+use Rattle.std.specs.Prelude.{ℕ, ◌+◌, ◌*◌, ◌/◌, ◌%◌, ◌≤◌, ◌≡◌, Bool, ◌&&◌, List, ◌++◌, length, get_or, take, drop, eqb, leb, Ok, Err}
+use Rattle.refusal.specs.Judging.{Judged, checked, and_then, if_accepted}
 use Rattle.refusal.specs.declared.Refusal.TheVariants.{Count, Second, Room}
-use Rattle.refusal.specs.Judging.{checked, and_then, if_accepted}
 use Rattle.walk.specs.Walk.{scan}
 use Rattle.house.specs.Written.{seconds_to, file_of}
 use Rattle.trace.specs.Judging.{countable}
@@ -28,11 +26,11 @@ writable seconds k = leb (speed_in seconds k) 2000 && leb (phase_in seconds k) 3
 
 -- the first of the n seconds from k on that is not. Its place counts from 1
 abbrev pub judge_seconds : List ℕ → ℕ → ℕ → Judged
-judge_seconds seconds = scan (writable seconds) (λ k. Refused (Second (k + 1))) (λ k. Accepted)
+judge_seconds seconds = scan (writable seconds) (λ k. Err (Second (k + 1))) (λ k. Ok tt)
 
 -- 8: "an output too small"
 abbrev pub judge_room : ℕ → ℕ → Judged
-judge_room n room = checked (leb (8 + 4 * n) room) Room Accepted
+judge_room n room = checked (leb (8 + 4 * n) room) Room (Ok tt)
 
 unfoldable pub write_answer : List ℕ → ℕ → Judged
 write_answer seconds room =
@@ -43,7 +41,7 @@ pub record Filling (seconds : List ℕ) (room n : ℕ) : Type 0 where
   pub lent : 2 * n ≤ length seconds
   pub few : n ≤ 2000
   pub fits : 8 + 4 * n ≤ room
-  pub taken : judge_seconds seconds 0 n ≡ Accepted
+  pub taken : judge_seconds seconds 0 n ≡ Ok tt
 
 -- a buffer with the n seconds behind its first 8 bytes
 abbrev pub with_seconds : List ℕ → ℕ → List ℕ → List ℕ

@@ -5,22 +5,20 @@ ghost use Rattle.std.specs.Prelude.{◌≡◌, ◌++◌, ◌+◌, ◌*◌, ◌�
 ghost use Rattle.house.specs.Written.{file_of};
 ghost use Rattle.writer.specs.Writer.{speed_in, phase_in, judge_seconds, Filling, with_seconds, write_answer, write_buffer};
 
-use refusal::{Judged, Refusal};
+use refusal::Refusal;
 
 // Refusal 4: the first of the n seconds that cannot be written.
-fn judge_seconds(seconds: &[u16], n: usize) -> Judged
+fn judge_seconds(seconds: &[u16], n: usize) -> Result<(), Refusal>
     requires { (2 * n ≤ length seconds.now) × (n ≤ 2000) }
     ensures { result ≡ judge_seconds seconds.now 0 n }
 {
-    let mut k = 0;
-    while k < n {
+    for k in 0..n {
         if !((seconds[2 * k] <= 2000) & (seconds[2 * k + 1] <= 3)) {
             let second = (k + 1) as u32;
-            return Judged::Refused(Refusal::Second { second });
+            return Err(Refusal::Second { second });
         }
-        k += 1;
     }
-    Judged::Accepted
+    Ok(())
 }
 
 // The n seconds behind the head.
@@ -29,11 +27,9 @@ fn put_seconds(seconds: &[u16], buffer: &mut [u8], n: usize)
     requires { Filling seconds.now (length buffer.old) n }
     ensures { buffer.new ≡ with_seconds seconds.now n buffer.old }
 {
-    let mut k = 0;
-    while k < n {
+    for k in 0..n {
         let phase = seconds[2 * k + 1] as u8;
         house::put_second(buffer, k, seconds[2 * k], phase);
-        k += 1;
     }
 }
 
@@ -47,21 +43,19 @@ fn fill(seconds: &[u16], buffer: &mut [u8], n: usize)
 }
 
 // Refusals 2, 4 and 8, in this order, and the buffer as it was; or the trace at its front.
-pub fn write_trace(seconds: &[u16], buffer: &mut [u8]) -> Judged
+#[tactic(auto, unfolding(crate::specs::Writer::write_answer, crate::specs::Writer::write_buffer))]
+pub fn write_trace(seconds: &[u16], buffer: &mut [u8]) -> Result<(), Refusal>
     ensures { (result ≡ write_answer seconds.now (length buffer.old))
         × (buffer.new ≡ write_buffer seconds.now buffer.old) }
 {
     let n = seconds.len() / 2;
     if !((seconds.len() % 2 == 0) & ((1 <= n) & (n <= 2000))) {
-        return Judged::Refused(Refusal::Count);
+        return Err(Refusal::Count);
     }
-    let judged = judge_seconds(seconds, n);
-    let Judged::Accepted = judged else {
-        return judged;
-    };
+    judge_seconds(seconds, n)?;
     if buffer.len() < 8 + 4 * n {
-        return Judged::Refused(Refusal::Room);
+        return Err(Refusal::Room);
     }
     fill(seconds, buffer, n);
-    Judged::Accepted
+    Ok(())
 }

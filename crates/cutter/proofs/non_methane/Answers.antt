@@ -11,7 +11,7 @@ use Rattle.cutter.proofs.non_methane.Goals as goal
 
 pub difference-requires : goal.difference-requires
 difference-requires c =
-    let share : SFits w64 c.whole.result = search rules in
+    let share : SFits w64 c.from.result = search rules in
     let r = c.requires in
-    simp (c.scaled.ensures, simp to_z-of_z at c.scaled-without.ensures, c.whole.ensures)
+    simp (c.scaled.ensures, simp to_z-of_z at c.scaled-without.ensures, c.from.ensures)
     (difference-fits (omega arith) (up_to-size (without-up_to r)) (up_to-size (behind-up_to r)))

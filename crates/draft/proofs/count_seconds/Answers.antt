@@ -14,33 +14,32 @@ byte true = refl
 byte false = refl
 
 -- the count with this second
-counted : (draft : List ℕ) (changed listed : Bool) (k count : ℕ) {gap : Gap} → k < count_of draft → gap ≡ gap_of draft k → listed ≡ listed_by gap k changed
-    → count ≡ length (seconds_where (listed_at draft changed) k) → count + bool_byte listed ≡ length (seconds_where (listed_at draft changed) (k + 1))
-counted draft changed listed k count l found is before =
+counted : (draft : List ℕ) (changed listed : Bool) (k count : ℕ) {gap : Gap} {more : ℕ} → k < count_of draft → gap ≡ gap_of draft k → listed ≡ listed_by gap k changed
+    → more ≡ bool_byte listed → count ≡ length (seconds_where (listed_at draft changed) k) → count + more ≡ length (seconds_where (listed_at draft changed) (k + 1))
+counted draft changed listed k count l found is added before =
     let here : listed ≡ listed_at draft changed k = is ∙ ap (λ (gap : Gap). listed_by gap k changed) found ∙ listed_by_lem draft k changed l in
-    (λ i. before i + byte listed i) ∙ sym (count-on (listed_at draft changed) k (sym here))
+    (λ i. before i + (added ∙ byte listed) i) ∙ sym (count-on (listed_at draft changed) k (sym here))
 
 pub loop-k-init : goal.loop-k-init
-loop-k-init c = (omega arith, refl, sym (ap length (where-none (listed_at c.args.draft.now c.args.changed))))
+loop-k-init c = (refl, sym (ap length (where-none (listed_at c.args.draft.file.bytes.now c.args.changed))))
 
 pub overflow_add-count : goal.overflow_add-count
 overflow_add-count c =
-    let most = count_most (listed_at c.args.draft.now c.args.changed) (c.loop-k.k + 1) in
+    let most = count_most (listed_at c.args.draft.file.bytes.now c.args.changed) (c.loop-k.k + 1) in
     let more =
-    counted c.args.draft.now c.args.changed c.is_listed.result c.loop-k.k c.loop-k.count (omega (arith, c.requires.is)) c.gap_at-gap.ensures c.is_listed.ensures c.loop-k.invariant.2 in
-    omega (arith, more, most, c.requires.few)
+    counted c.args.draft.file.bytes.now c.args.changed c.is_listed.result c.loop-k.k c.loop-k.count (omega (arith, c.args.draft.drafted.is)) c.gap_at-gap.ensures c.is_listed.ensures c.from-count.ensures c.loop-k.invariant.1 in
+    omega (arith, more, most, c.args.draft.drafted.few)
 
 pub loop-k-preserved : goal.loop-k-preserved
 loop-k-preserved c = (
-  omega arith,
-  gap-next c.args.draft.now c.loop-k.k c.gap_at-gap.ensures,
-  counted c.args.draft.now c.args.changed c.is_listed.result c.loop-k.k c.loop-k.count (omega (arith, c.requires.is)) c.gap_at-gap.ensures c.is_listed.ensures c.loop-k.invariant.2,
+  gap-next c.args.draft.file.bytes.now c.loop-k.k c.gap_at-gap.ensures,
+  counted c.args.draft.file.bytes.now c.args.changed c.is_listed.result c.loop-k.k c.loop-k.count (omega (arith, c.args.draft.drafted.is)) c.gap_at-gap.ensures c.is_listed.ensures c.from-count.ensures c.loop-k.invariant.1,
 )
 
 pub returns : goal.returns
 returns c =
-    let listed = listed_at c.args.draft.now c.args.changed in
-    let all : c.loop-k.k ≡ count_of c.args.draft.now = omega (arith, c.loop-k-test.false, c.loop-k.invariant.0, c.requires.is) in
-    let is = c.loop-k.invariant.2 ∙ ap (λ (k : ℕ). length (seconds_where listed k)) all in
-    let most = count_most listed (count_of c.args.draft.now) in
-    (is, omega (arith, is, most, c.requires.is))
+    let listed = listed_at c.args.draft.file.bytes.now c.args.changed in
+    let all : c.loop-k.k ≡ count_of c.args.draft.file.bytes.now = omega (arith, c.args.draft.drafted.is) in
+    let is = c.loop-k.invariant.1 ∙ ap (λ (k : ℕ). length (seconds_where listed k)) all in
+    let most = count_most listed (count_of c.args.draft.file.bytes.now) in
+    (is, omega (arith, is, most, c.args.draft.drafted.is))

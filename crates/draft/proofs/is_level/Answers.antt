@@ -6,10 +6,8 @@ use Rattle.draft.proofs.is_level.Goals as goal
 
 pub loop-k-preserved : goal.loop-k-preserved
 loop-k-preserved c =
-    let draft = c.args.draft.now in
-    let from = c.args.from in (
-      omega arith,
-      c.loop-k.invariant.1
-          ∙ scan-on (λ k. nat_eq (speed_at draft k) (speed_at draft from)) (λ k. false) (λ k. true) _ _ c.loop-k-test.true
-          (eq-eqb _ _ (sym c.speed_at.ensures.0 ∙ c.if-speed_at-speed.false ∙ c.speed_at-speed.ensures.0)),
-    )
+    let draft = c.args.draft.file.bytes.now in
+    let from = c.args.from in
+    c.loop-k.invariant
+    ∙ scan-on (λ k. nat_eq (speed_at draft k) (speed_at draft from)) (λ k. false) (λ k. true) _ _ (omega arith)
+    (eq-eqb _ _ (sym c.speed.ensures.0 ∙ c.if-speed.false ∙ c.speed-speed.ensures.0))

@@ -1,5 +1,5 @@
--- The loop of `is_level`: what is found from second `from` on is what is found from second k on. The measure is what is left.
-use Rattle.std.proofs.Common.{◌≡◌, ◌-◌, ◌≤◌, Bool, true, false, List, ℕ, nat_eq}
+-- The loop of `is_level`: what is found from second `from` on is what is found from second k on.
+use Rattle.std.proofs.Common.{◌≡◌, ◌-◌, Bool, true, false, List, ℕ, nat_eq}
 use Rattle.walk.specs.Walk.{scan}
 use Rattle.house.specs.House.{speed_at}
 use Rattle.draft.specs.Draft.{level}
@@ -10,7 +10,4 @@ abbrev pub level_from : List ℕ → ℕ → ℕ → ℕ → Bool
 level_from draft from to k = scan (λ k. nat_eq (speed_at draft k) (speed_at draft from)) (λ k. false) (λ k. true) k (to - k)
 
 abbrev pub invariant-loop-k : goal.invariant-loop-k
-invariant-loop-k l = (l.k ≤ l.to) × (level l.draft l.from l.to ≡ level_from l.draft l.from l.to l.k)
-
-abbrev pub decreases-loop-k : goal.decreases-loop-k
-decreases-loop-k l = l.to - l.k
+invariant-loop-k l = level l.draft.file.bytes.now l.from l.to ≡ level_from l.draft.file.bytes.now l.from l.to l.k

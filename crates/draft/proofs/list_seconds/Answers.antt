@@ -25,34 +25,33 @@ module _ (draft : List ℕ) (changed : Bool) (k : ℕ) (l : k < count_of draft) 
 
 pub loop-k-init : goal.loop-k-init
 loop-k-init c =
-    let none = where-none (listed_at c.args.draft.now c.args.changed) in
-    (omega arith, refl, refl, sym (ap length none), sym (ap (λ (l : List ℕ). l ++ c.args.list.now) none))
+    let none = where-none (listed_at c.args.draft.file.bytes.now c.args.changed) in
+    (refl, refl, sym (ap length none), sym (ap (λ (l : List ℕ). l ++ c.args.list.now) none))
 
 pub list_second-at-requires : goal.list_second-at-requires
 list_second-at-requires c =
-    let draft = c.args.draft.now in
-    let inside : c.loop-k.k < count_of draft = omega (arith, c.requires.0.is) in
+    let draft = c.args.draft.file.bytes.now in
+    let inside : c.loop-k.k < count_of draft = omega (arith, c.args.draft.drafted.is) in
     let is = is-listed draft c.args.changed c.loop-k.k inside c.gap_at-gap.ensures c.is_listed-listed.ensures in
     let most = count_most (listed_at draft c.args.changed) c.loop-k.k in (
-      omega (arith, most, c.loop-k.invariant.3, c.loop-k.invariant.0, c.requires.0.few),
-      (λ e. has_room draft c.args.changed c.loop-k.k inside c.loop-k.at (length c.loop-k.list) is c.loop-k.invariant.3 (omega (arith, c.requires.1, c.loop-k.invariant.2)) e),
+      omega (arith, most, c.loop-k.invariant.2, c.args.draft.drafted.few),
+      (λ e. has_room draft c.args.changed c.loop-k.k inside c.loop-k.at (length c.loop-k.list) is c.loop-k.invariant.2 (omega (arith, c.requires, c.loop-k.invariant.1)) e),
     )
 
 pub loop-k-preserved : goal.loop-k-preserved
 loop-k-preserved c =
-    let draft = c.args.draft.now in
+    let draft = c.args.draft.file.bytes.now in
     let list = c.args.list.now in
     let k = c.loop-k.k in
     let listed = listed_at draft c.args.changed in
-    let inside : k < count_of draft = omega (arith, c.requires.0.is) in
+    let inside : k < count_of draft = omega (arith, c.args.draft.drafted.is) in
     let is = is-listed draft c.args.changed k inside c.gap_at-gap.ensures c.is_listed-listed.ensures in
     let count = c.list_second-at.ensures.0 in (
-      omega arith,
       gap-next draft k c.gap_at-gap.ensures,
-      c.list_second-at.auto.list ∙ c.loop-k.invariant.2,
-      count ∙ ap (λ (n : ℕ). n + cond c.is_listed-listed.result 1 0) c.loop-k.invariant.3 ∙ sym (count-on listed k is),
+      c.list_second-at.auto.list ∙ c.loop-k.invariant.1,
+      count ∙ ap (λ (n : ℕ). n + cond c.is_listed-listed.result 1 0) c.loop-k.invariant.2 ∙ sym (count-on listed k is),
       c.list_second-at.ensures.1
-          ∙ list_on listed list k c.loop-k.at c.loop-k.invariant.3 c.loop-k.invariant.4 is
-          (has_room draft c.args.changed k inside c.loop-k.at (length list) is c.loop-k.invariant.3 c.requires.1)
+          ∙ list_on listed list k c.loop-k.at c.loop-k.invariant.2 c.loop-k.invariant.3 is
+          (has_room draft c.args.changed k inside c.loop-k.at (length list) is c.loop-k.invariant.2 c.requires)
           ∙ (λ i. seconds_where listed (k + 1) ++ drop (sym count i) list),
     )

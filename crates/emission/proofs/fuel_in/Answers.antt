@@ -1,6 +1,6 @@
 -- What the fuel asks of the sheet and of three gases, each at its place.
 use borrow.Author.Rules.{rules}
-use Rattle.reading.specs.Gas.{HC, CO, CO2, NMHC}
+use Rattle.refusal.specs.declared.Gas.TheVariants.{HC, CO, CO2, NMHC}
 use Rattle.emission.proofs.fuel_in.Goals as goal
 
 pub fuel-requires : goal.fuel-requires

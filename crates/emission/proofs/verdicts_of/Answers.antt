@@ -1,6 +1,6 @@
 -- What is asked of every gas is asked of each.
 use borrow.Author.Rules.{rules}
-use Rattle.reading.specs.Gas.{HC, CO, NOx, CO2, NMHC}
+use Rattle.refusal.specs.declared.Gas.TheVariants.{HC, CO, NOx, CO2, NMHC}
 use Rattle.emission.proofs.verdicts_of.Goals as goal
 
 pub verdict_of-requires : goal.verdict_of-requires

@@ -9,8 +9,8 @@ use Rattle.gear.proofs.fill.Goals as goal
 pub returns : goal.returns
 returns c =
     let a = c.args in
-    let accepted = sym c.own_gears-close.ensures.0 ∙ c.in-Accepted.is in
+    let close = c.in_ok-own_gears.ensures in
     let row =
-    ap (λ (l : List ℕ). row_from a.v (λ k. get_or l k 0) a.trace.now a.n) (c.own_gears-close.ensures.1 ∙ called-gears (shift_of a.v) a.trace.now _ a.n accepted)
-    ∙ row-of-own a.v a.trace.now _ a.n c.requires.1.few in
-    (sym accepted, c.into_part.ensures ∙ ap (λ (l : List ℕ). l ++ drop (2 * a.n) a.part.now) row)
+    ap (λ (l : List ℕ). row_from a.v.sheet (λ k. get_or l k 0) a.trace.bytes.now a.trace.seconds) (close.1 ∙ called-gears (shift_of a.v.sheet) a.trace.bytes.now _ a.trace.seconds (sym close.0))
+    ∙ row-of-own a.v.sheet a.trace.bytes.now _ a.trace.seconds c.requires.0.few in
+    (close.0, c.into_part.ensures ∙ ap (λ (l : List ℕ). l ++ drop (2 * a.trace.seconds) a.part.now) row)

@@ -1,5 +1,5 @@
--- What the loop of `put_out` keeps: the first j lanes are put. The measure is how many are left.
-use Rattle.std.proofs.Common.{◌-◌, true}
+-- What the loop of `put_out` keeps: the first j lanes are put.
+use Rattle.std.proofs.Common.{true}
 use Rattle.lanes.specs.Lanes.{lane_at}
 use Rattle.lanes.proofs.Lanes.{Line}
 use Rattle.lane_clutch.specs.Clutch.{clutched}
@@ -7,6 +7,3 @@ use Rattle.lane_clutch.proofs.put_out.Given as goal
 
 abbrev pub invariant-loop-j : goal.invariant-loop-j
 invariant-loop-j l = Line (λ m j. clutched true (lane_at m j l.k)) l.k l.initial.lanes l.lanes l.j
-
-abbrev pub decreases-loop-j : goal.decreases-loop-j
-decreases-loop-j l = 16 - l.j

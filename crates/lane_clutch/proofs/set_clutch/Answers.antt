@@ -10,11 +10,10 @@ pub loop-k-preserved : goal.loop-k-preserved
 loop-k-preserved c =
     let a = c.args in
     let l = c.loop-k in
-    let line = rw (c.flags_at.ensures, c.speed_at-speed.ensures.0) at c.clutch_second.ensures in
+    let line = rw (c.flags.ensures, c.speed-speed.ensures.0) at c.clutch_second.ensures in
     record {
-      so_far = omega arith;
       tops = l.invariant.tops;
       put =
-          subst (λ (lanes : List ℕ). Put a.trace.now a.tables.now a.lanes.now a.n lanes (l.k + 1)) (sym line)
-          (put_next a.trace.now a.tables.now a.lanes.now a.n c.requires.2 _ l.invariant.tops l.lanes l.k (omega arith) l.invariant.put);
+          subst (λ (lanes : List ℕ). Put a.trace.bytes.now a.tables.now a.lanes.now a.trace.seconds lanes (l.k + 1)) (sym line)
+          (put_next a.trace.bytes.now a.tables.now a.lanes.now a.trace.seconds c.requires.1 _ l.invariant.tops l.lanes l.k (omega arith) l.invariant.put);
     }

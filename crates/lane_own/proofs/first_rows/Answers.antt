@@ -12,11 +12,10 @@ loop-k-preserved c =
     let a = c.args in
     let l = c.loop-k in
     let end = c.stop_end_from-end.ensures.0 in
-    let line = simp (c.flags_at.ensures, c.speed_at-speed.ensures.0, end) at c.put_own.ensures in
+    let line = simp (c.flags.ensures, c.speed-speed.ensures.0, end) at c.put_own.ensures in
     record {
-      so_far = omega arith;
       put =
-          subst (λ (lanes : List ℕ). Put a.trace.now a.tables.now a.lanes.now a.n lanes (l.k + 1)) (sym line)
-          (put_next a.trace.now a.tables.now a.lanes.now a.n l.lanes l.k (omega arith) c.requires.2 l.invariant.put);
-      carried = carried-next a.trace.now a.n l.k _ (omega arith) end;
+          subst (λ (lanes : List ℕ). Put a.trace.bytes.now a.tables.now a.lanes.now a.trace.seconds lanes (l.k + 1)) (sym line)
+          (put_next a.trace.bytes.now a.tables.now a.lanes.now a.trace.seconds l.lanes l.k (omega arith) c.requires.1 l.invariant.put);
+      carried = carried-next a.trace.bytes.now a.trace.seconds l.k _ (omega arith) end;
     }

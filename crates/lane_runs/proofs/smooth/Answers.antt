@@ -5,15 +5,12 @@ use Rattle.lane_runs.proofs.Smoothing.{reached-none, reached-next, reached-all}
 use Rattle.lane_runs.proofs.smooth.Goals as goal
 
 pub loop-k-init : goal.loop-k-init
-loop-k-init c = record { so_far = omega arith; reached = reached-none _ _ _ _ refl refl }
+loop-k-init c = reached-none _ _ _ _ refl refl
 
 pub loop-k-preserved : goal.loop-k-preserved
-loop-k-preserved c = record {
-  so_far = omega arith;
-  reached =
-      reached-next c.args.trace.now c.args.lanes.now c.args.n c.loop-k.lanes _ c.loop-k.runs _ c.loop-k.former _ _ c.loop-k.k (omega arith)
-      c.flags_at-flags.ensures c.prior.ensures c.loop-k.invariant.reached c.judge.ensures;
-}
+loop-k-preserved c =
+    reached-next c.args.trace.bytes.now c.args.lanes.now c.args.trace.seconds c.loop-k.lanes _ c.loop-k.runs _ c.loop-k.former _ _ c.loop-k.k (omega arith)
+    c.flags-flags.ensures c.prior.ensures c.loop-k.invariant c.judge.ensures
 
 pub returns : goal.returns
-returns c = reached-all _ _ _ _ _ _ _ (omega arith) c.loop-k.invariant.reached
+returns c = reached-all _ _ _ _ _ _ _ (omega arith) c.loop-k.invariant

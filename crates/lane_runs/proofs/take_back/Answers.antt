@@ -11,9 +11,5 @@ pub loop-d-preserved : goal.loop-d-preserved
 loop-d-preserved c =
     let runs = c.args.runs.now in
     let lanes = c.args.lanes.now in
-    record {
-      so_far = omega arith;
-      taken =
-          subst (λ (lanes' : List ℕ). TakenTo (c.loop-d.d + 1) runs c.args.k lanes lanes') (sym c.take_one.ensures)
-          (taken_next runs c.args.k lanes (omega arith) c.loop-d.lanes c.loop-d.d c.loop-d.invariant.taken);
-    }
+    subst (λ (lanes' : List ℕ). TakenTo (c.loop-d.d + 1) runs c.args.k lanes lanes') (sym c.take_one.ensures)
+    (taken_next runs c.args.k lanes (omega arith) c.loop-d.lanes c.loop-d.d c.loop-d.invariant)

@@ -1,5 +1,4 @@
--- What the loop of `put_cap` keeps: the first j lanes are put. The measure is how many are left.
-use Rattle.std.proofs.Common.{◌-◌}
+-- What the loop of `put_cap` keeps: the first j lanes are put.
 use Rattle.row.specs.Corrections.{cap_after}
 use Rattle.lanes.specs.Lanes.{lane_at}
 use Rattle.lanes.proofs.Lanes.{Line}
@@ -7,6 +6,3 @@ use Rattle.lanes.proofs.put_cap.Given as goal
 
 abbrev pub invariant-loop-j : goal.invariant-loop-j
 invariant-loop-j l = Line (λ m j. cap_after l.flags (lane_at m j 0) (lane_at l.lanes j l.k)) 0 l.initial.kept l.kept l.j
-
-abbrev pub decreases-loop-j : goal.decreases-loop-j
-decreases-loop-j l = 16 - l.j

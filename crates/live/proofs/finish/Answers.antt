@@ -17,9 +17,8 @@ loop-i-preserved c =
     let i = c.loop-i.i in
     let clutch =
     c.clutch_of.ensures
-    ∙ ap (λ (speed : ℕ). clutch_of v (get_or s.flags (m - (i + 1)) 0) speed (gear_from s.gears m i)) c.wide.ensures in
+    ∙ ap (λ (speed : ℕ). clutch_of v (get_or s.flags (m - (i + 1)) 0) speed (gear_from s.gears m i)) c.from.ensures in
     record {
-      so_far = omega arith;
       few = omega arith;
       written = pairs_next (gear_from s.gears m) (clutch_from v s.gears s.flags s.speeds m) no_bytes i c.loop-i.invariant.written refl clutch (omega arith);
     }

@@ -1,4 +1,4 @@
--- What the loop of `finish` keeps: of the seconds that wait, newest first, i are written, over zeros. The measure is how many are left.
+-- What the loop of `finish` keeps: of the seconds that wait, newest first, i are written, over zeros.
 use Rattle.std.proofs.Common.{◌≡◌, ℕ, ◌+◌, ◌-◌, ◌*◌, ◌≤◌, List, ◌++◌, get_or, drop}
 use Rattle.walk.specs.Walk.{pairs}
 use Rattle.vehicle.specs.declared.VehicleSheet.{VehicleSheet}
@@ -14,10 +14,6 @@ clutch_from v gears marks speeds m i = clutch_of v (get_or marks (m - (i + 1)) 0
 
 abbrev pub invariant-loop-i : goal.invariant-loop-i
 invariant-loop-i l = record {
-  so_far : l.i ≤ l.m;
   few : l.m ≤ 5;
   written : l.bytes ≡ pairs (gear_from l.gears l.m) (clutch_from l.v l.gears l.marks l.speeds l.m) l.i ++ drop (2 * l.i) l.initial.bytes;
 }
-
-abbrev pub decreases-loop-i : goal.decreases-loop-i
-decreases-loop-i l = l.m - l.i

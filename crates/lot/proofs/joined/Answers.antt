@@ -5,4 +5,4 @@ use Rattle.lot.proofs.Sound.{sound}
 use Rattle.lot.proofs.joined.Goals as goal
 
 pub with_record-requires : goal.with_record-requires
-with_record-requires c = (sound _ (sym c.is_faulty.ensures ∙ c.if-is_faulty.false), subst (RoomyRun 255) c.in-Counted.is c.requires.1)
+with_record-requires c = (sound _ (sym c.is_faulty.ensures ∙ c.if-is_faulty.false), subst (RoomyRun 255) c.in_ok-t.was c.requires.1)

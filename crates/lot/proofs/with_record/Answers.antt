@@ -1,7 +1,7 @@
 -- Each gas that a record has is sound, and its tally has room. The first four are always there.
 use borrow.Author.Rules.{rules}
 use mathlib.Core.Path.{refl, sym, ◌∙◌}
-use Rattle.reading.specs.Gas.{HC, CO, NOx, CO2, NMHC}
+use Rattle.refusal.specs.declared.Gas.TheVariants.{HC, CO, NOx, CO2, NMHC}
 use Rattle.lot.proofs.with_record.Goals as goal
 
 pub added-requires : goal.added-requires

@@ -1,7 +1,8 @@
 -- By tenths it is what it is by the ends.
-use Rattle.std.proofs.Common.{◌≡◌, ◌∙◌, sym, ap, List, ℕ}
-use Rattle.refusal.specs.declared.Judged.{Judged}
-use Rattle.refusal.specs.Judging.{if_accepted}
+use Rattle.std.proofs.Common.{◌≡◌, ◌∙◌, ap, List, ℕ}
+use Rattle.std.specs.Prelude.{Ok}
+use Rattle.std.proofs.lemmas.Result.{err_from_is_err_and}
+use Rattle.refusal.specs.Judging.{Judged, if_accepted}
 use Rattle.shift.specs.declared.Shift.{Shift}
 use Rattle.shift.specs.Speeds.{shift_of}
 use Rattle.own.specs.Own.{judge_close, put_own, gears_after}
@@ -13,22 +14,21 @@ after-told : (s : Shift) (trace own : List ℕ) (n : ℕ) {told : Judged} → to
 unfolding gears_after
 after-told s trace own n e = ap (λ (j : Judged). if_accepted j (put_own s trace own n) own) e
 
-pub returns-in_default : goal.returns-in_default
-returns-in_default c =
+pub returns-in_err-judge_marked : goal.returns-in_err-judge_marked
+returns-in_err-judge_marked c =
     let a = c.args in
-    let s = shift_of a.v in
-    let close : c.judge_marked-judged.result ≡ judge_close s a.trace.now 0 a.n =
-    rw c.of_vehicle-t.ensures at c.judge_marked-judged.ensures ∙ marked-same c.requires.0 a.trace.now a.n c.requires.1 in
-    (close, after-told s a.trace.now a.own.now a.n (sym c.in_default.is ∙ close))
+    let s = shift_of a.v.sheet in
+    let told = rw c.of_vehicle-t.ensures at c.in_err-judge_marked.ensures ∙ marked-same a.v.sound a.trace.bytes.now a.trace.seconds c.requires.0 in
+    let p = err_from_is_err_and c.from_residual.result c.from_residual.ensures.1 in
+    (rw (p.1, p.2) told, after-told s a.trace.bytes.now a.own.now a.trace.seconds told)
 
 pub returns : goal.returns
 returns c =
     let a = c.args in
-    let s = shift_of a.v in
-    let close : c.judge_marked-judged.result ≡ judge_close s a.trace.now 0 a.n =
-    rw c.of_vehicle-t.ensures at c.judge_marked-judged.ensures ∙ marked-same c.requires.0 a.trace.now a.n c.requires.1 in
-    let told = sym c.in-Accepted.is ∙ close in (
+    let s = shift_of a.v.sheet in
+    let told : ◌≡◌ {A = Judged} (Ok tt) (judge_close s a.trace.bytes.now 0 a.trace.seconds) =
+    rw c.of_vehicle-t.ensures at c.in_ok-judge_marked.ensures ∙ marked-same a.v.sound a.trace.bytes.now a.trace.seconds c.requires.0 in (
       told,
-      rw c.of_vehicle-t.ensures at c.put_gears.ensures ∙ put_same c.requires.0 a.trace.now a.n c.requires.1 a.own.now
-          ∙ after-told s a.trace.now a.own.now a.n told,
+      rw c.of_vehicle-t.ensures at c.put_gears.ensures ∙ put_same a.v.sound a.trace.bytes.now a.trace.seconds c.requires.0 a.own.now
+          ∙ after-told s a.trace.bytes.now a.own.now a.trace.seconds told,
     )

@@ -1,6 +1,6 @@
 -- NOx is one of the gases whose sizes are known.
 use borrow.Author.Rules.{rules}
-use Rattle.reading.specs.Gas.{CO, NOx}
+use Rattle.refusal.specs.declared.Gas.TheVariants.{CO, NOx}
 use Rattle.part.proofs.corrected_for.Goals as goal
 
 pub nox_mass-nox-requires : goal.nox_mass-nox-requires

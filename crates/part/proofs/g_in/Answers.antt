@@ -1,6 +1,6 @@
 -- What G asks of three gases, each at its place among the readings.
 use borrow.Author.Rules.{rules}
-use Rattle.reading.specs.Gas.{HC, CO, CO2, NMHC}
+use Rattle.refusal.specs.declared.Gas.TheVariants.{HC, CO, CO2, NMHC}
 use Rattle.part.proofs.g_in.Goals as goal
 
 pub g_of-requires : goal.g_of-requires

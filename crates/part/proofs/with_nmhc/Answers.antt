@@ -1,6 +1,6 @@
 -- The fifth gas asks what the ranges of a part say of the readings.
 use borrow.Author.Rules.{rules}
-use Rattle.reading.specs.Gas.{HC, CO, NMHC}
+use Rattle.refusal.specs.declared.Gas.TheVariants.{HC, CO, NMHC}
 use Rattle.part.proofs.with_nmhc.Goals as goal
 
 pub nmhc-nmhc-requires : goal.nmhc-nmhc-requires

@@ -8,9 +8,8 @@ use Rattle.phase.proofs.stop_end.Goals as goal
 
 pub loop-i-preserved : goal.loop-i-preserved
 loop-i-preserved c =
-    let stops : stop_at c.args.trace.now c.loop-i.i ≡ true = cc in
+    let stops : stop_at c.args.trace.bytes.now c.loop-i.i ≡ true = cc in
     record {
       begun = omega arith;
-      so_far = omega arith;
-      same = c.loop-i.invariant.same ∙ scan-on (stop_at c.args.trace.now) (λ i. i) (λ i. i) _ _ (omega arith) stops;
+      same = c.loop-i.invariant.same ∙ scan-on (stop_at c.args.trace.bytes.now) (λ i. i) (λ i. i) _ _ (omega arith) stops;
     }

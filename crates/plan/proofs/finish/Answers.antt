@@ -5,4 +5,4 @@ use Rattle.plan.proofs.finish.Goals as goal
 pub returns : goal.returns
 returns c =
     let a = c.args in
-    finishes a.trace.now a.n c.requires.0 a.tables.now a.lanes.now _ _ _ _ c.first_rows.ensures c.correct.ensures c.smooth.ensures c.set_clutch.ensures
+    finishes a.trace.bytes.now a.trace.seconds c.requires.0 a.tables.now a.lanes.now _ _ _ _ c.first_rows.ensures c.correct.ensures c.smooth.ensures c.set_clutch.ensures

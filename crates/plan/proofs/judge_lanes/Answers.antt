@@ -14,11 +14,10 @@ loop-j-preserved c =
     let answer = rw c.sheet_at.ensures at c.enter-judged.ensures.0 in
     let here = rw answer at lane in
     record {
-      so_far = omega arith;
       tables_long = here.long ∙ l.invariant.tables_long;
       answers_long = c.put_answer.auto.answers ∙ l.invariant.answers_long;
-      lanes = lanes_next a.trace.now a.sheets.now a.n a.from l.j l.tables _ (omega arith) l.invariant.lanes here;
+      lanes = lanes_next a.trace.bytes.now a.sheets.now a.trace.seconds a.from l.j l.tables _ (omega arith) l.invariant.lanes here;
       answers =
-          in_turn-next (λ (answers : List ℕ) (j : ℕ). with_answer answers (a.from + j) (vehicle_answer a.trace.now (sheet_at a.sheets.now (a.from + j)) a.n)) a.answers.now l.j
+          in_turn-next (λ (answers : List ℕ) (j : ℕ). with_answer answers (a.from + j) (vehicle_answer a.trace.bytes.now (sheet_at a.sheets.now (a.from + j)) a.trace.seconds)) a.answers.now l.j
           l.invariant.answers (rw answer at c.put_answer.ensures);
     }

@@ -1,35 +1,29 @@
 -- `plan`: a refusal comes before the first store, and an accepted call has what its vehicles need.
-use Rattle.std.proofs.Common.{◌∙◌, sym, arith}
+use Rattle.std.proofs.Common.{◌∙◌, sym}
+use Rattle.std.proofs.lemmas.Result.{err_from_is_err_and}
 use Rattle.plan.proofs.Whole.{planned, rows_written, answers-written, rows_stay, answers_stay}
 use Rattle.plan.proofs.plan.Goals as goal
 
-pub returns-in_default : goal.returns-in_default
-returns-in_default c =
+pub returns-in_err-trace : goal.returns-in_err-trace
+returns-in_err-trace c =
     let a = c.args in
-    let judged = c.judge_plan-judged.ensures in
-    let refused = sym judged ∙ c.in_default.is in
-    (judged, rows_stay a.trace.now a.sheets.now a.rows.now a.answers.now _ refused, answers_stay a.trace.now a.sheets.now a.rows.now a.answers.now _ refused)
-
-pub count_of-n-requires : goal.count_of-n-requires
-count_of-n-requires c =
-    let a = c.args in
-    let accepted = sym c.judge_plan-judged.ensures ∙ c.in-Accepted.is in
-    let lasts = (planned a.trace.now a.sheets.now a.rows.now a.answers.now accepted).read.lasts in
-    omega (arith, lasts)
+    let p = err_from_is_err_and c.from_residual.result c.from_residual.ensures.1 in
+    let refused = c.in_err-trace.ensures in
+    rw (p.1, p.2)
+    (sym refused, rows_stay a.trace.now a.sheets.now a.rows.now a.answers.now _ refused, answers_stay a.trace.now a.sheets.now a.rows.now a.answers.now _ refused)
 
 pub write_all-requires : goal.write_all-requires
 write_all-requires c =
     let a = c.args in
-    let accepted = sym c.judge_plan-judged.ensures ∙ c.in-Accepted.is in
-    rw c.count_of-n.ensures.0 (planned a.trace.now a.sheets.now a.rows.now a.answers.now accepted)
+    let read = c.in_ok-trace.ensures in
+    rw (read.1, read.2) (planned a.trace.now a.sheets.now a.rows.now a.answers.now read.0)
 
 pub returns : goal.returns
 returns c =
     let a = c.args in
-    let accepted = sym c.judge_plan-judged.ensures ∙ c.in-Accepted.is in
-    let n = c.count_of-n.ensures.0 in
-    let written = rw n at c.write_all.ensures in (
-      sym accepted,
-      written.0 ∙ rows_written a.trace.now a.sheets.now a.rows.now a.answers.now accepted,
-      written.1 ∙ answers-written a.trace.now a.sheets.now a.rows.now a.answers.now accepted,
+    let read = c.in_ok-trace.ensures in
+    let written = rw (read.1, read.2) at c.write_all.ensures in (
+      sym read.0,
+      written.0 ∙ rows_written a.trace.now a.sheets.now a.rows.now a.answers.now read.0,
+      written.1 ∙ answers-written a.trace.now a.sheets.now a.rows.now a.answers.now read.0,
     )

@@ -10,15 +10,14 @@ pub loop-k-preserved : goal.loop-k-preserved
 loop-k-preserved c =
     let a = c.args in
     let l = c.loop-k in (
-      omega arith,
       simp length-set (omega arith),
-      pairs_next (λ k. lane_at a.lanes.now a.j k % 128) (λ k. lane_at a.lanes.now a.j k / 128) a.row.now l.k l.invariant.2 refl refl (omega arith),
+      pairs_next (λ k. lane_at a.lanes.now a.j k % 128) (λ k. lane_at a.lanes.now a.j k / 128) a.row.now l.k l.invariant.1 refl refl (omega arith),
     )
 
 pub returns : goal.returns
 returns c =
     let a = c.args in
     let all : c.loop-k.k ≡ a.n = omega arith in
-    c.loop-k.invariant.2
+    c.loop-k.invariant.1
     ∙ ap (λ (k : ℕ). lane_row a.lanes.now a.j k ++ drop (2 * k) a.row.now) all
     ∙ exact (lane_row a.lanes.now a.j a.n) a.row.now (2 * a.n) c.requires.1

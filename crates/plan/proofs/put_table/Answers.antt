@@ -7,20 +7,19 @@ use Rattle.plan.proofs.put_table.Goals as goal
 
 pub loop-i-init : goal.loop-i-init
 unfolding with_table
-loop-i-init c = (omega arith, refl, refl)
+loop-i-init c = (refl, refl)
 
 pub loop-i-preserved : goal.loop-i-preserved
 unfolding with_table
 loop-i-preserved c =
     let a = c.args in
     let l = c.loop-i in (
-      omega arith,
       simp length-set (omega arith),
-      in_turn-next (λ (tables : List ℕ) (i : ℕ). set tables (16 * i + a.j) (table_at a.v a.t i)) a.tables.now l.i l.invariant.2 (ap (set l.tables (16 * l.i + a.j)) c.table_at.ensures),
+      in_turn-next (λ (tables : List ℕ) (i : ℕ). set tables (16 * i + a.j) (table_at a.v.sheet a.t i)) a.tables.now l.i l.invariant.1 (ap (set l.tables (16 * l.i + a.j)) c.table_at.ensures),
     )
 
 pub returns : goal.returns
 returns c =
     let a = c.args in
     let all : c.loop-i.i ≡ 18 = omega arith in
-    c.loop-i.invariant.2 ∙ ap (with_table a.v a.t a.j a.tables.now) all
+    c.loop-i.invariant.1 ∙ ap (with_table a.v.sheet a.t a.j a.tables.now) all

@@ -7,6 +7,6 @@ pub returns : goal.returns
 returns c =
     let a = c.args in (
       c.put_lanes.ensures
-          ∙ parts_are a.trace.now a.sheets.now _ _ _ a.n a.from c.finish.ensures a.few a.at c.requires.sixteen c.requires.begins c.judge_lanes.ensures.1 a.rows.now,
+          ∙ parts_are a.trace.bytes.now a.sheets.now _ _ _ a.trace.seconds a.from c.finish.ensures a.few a.at c.requires.sixteen c.requires.begins c.judge_lanes.ensures.1 a.rows.now,
       c.judge_lanes.ensures.2,
     )

@@ -1,15 +1,11 @@
--- What the loop of `cap_runs` keeps: the row and the cap are those after k steps. The measure is what is left of n.
-use Rattle.std.proofs.Common.{◌-◌, ◌≡◌, ◌≤◌, length}
+-- What the loop of `cap_runs` keeps: the row and the cap are those after k steps.
+use Rattle.std.proofs.Common.{◌≡◌, length}
 use Rattle.walk.specs.Walk.{in_turn}
 use Rattle.row.specs.Corrections.{uncapped, cap_step}
 use Rattle.row.proofs.cap_runs.Given as goal
 
 abbrev pub invariant-loop-k : goal.invariant-loop-k
 invariant-loop-k l = record {
-  so_far : l.k ≤ l.n;
   as_long : length l.row ≡ length l.initial.row;
-  state : (l.row, l.cap) ≡ in_turn (cap_step l.trace) (l.initial.row, uncapped) l.k;
+  state : (l.row, l.cap) ≡ in_turn (cap_step l.trace.bytes.now) (l.initial.row, uncapped) l.k;
 }
-
-abbrev pub decreases-loop-k : goal.decreases-loop-k
-decreases-loop-k l = l.n - l.k

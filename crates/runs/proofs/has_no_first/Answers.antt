@@ -8,11 +8,10 @@ use Rattle.runs.proofs.has_no_first.Goals as goal
 
 pub loop-k-preserved : goal.loop-k-preserved
 loop-k-preserved c =
-    let marked = rw c.flags_at.ensures at c.no_first.ensures in
+    let marked = rw c.flags.ensures at c.no_first.ensures in
     record {
       begun = omega arith;
-      so_far = omega arith;
       same =
           c.loop-k.invariant.same
-          ∙ scan-on (λ k. not (no_first_at c.args.trace.now k)) (λ k. true) (λ k. false) _ _ c.loop-k-test.true (ap not (sym marked ∙ c.if-no_first.false));
+          ∙ scan-on (λ k. not (no_first_at c.args.trace.bytes.now k)) (λ k. true) (λ k. false) _ _ c.loop-k-test.true (ap not (sym marked ∙ c.if-no_first.false));
     }

@@ -8,11 +8,10 @@ use Rattle.runs.proofs.run_end.Goals as goal
 
 pub loop-k-preserved : goal.loop-k-preserved
 loop-k-preserved c =
-    let goes : goes_on c.args.trace.now c.args.row.now c.args.gear c.loop-k.k ≡ true = cc in
+    let goes : goes_on c.args.trace.bytes.now c.args.row.now c.args.gear c.loop-k.k ≡ true = cc in
     record {
       begun = omega arith;
-      so_far = omega arith;
       same =
           c.loop-k.invariant.same
-          ∙ scan-on (goes_on c.args.trace.now c.args.row.now c.args.gear) (λ k. k) (λ k. k) _ _ c.loop-k-test.true goes;
+          ∙ scan-on (goes_on c.args.trace.bytes.now c.args.row.now c.args.gear) (λ k. k) (λ k. k) _ _ c.loop-k-test.true goes;
     }

@@ -1,24 +1,6 @@
--- What each stage asks: what it is given is that of the definition, which fits by the sheet's ranges.
-use Rattle.std.proofs.Common.{◌≡◌}
-use Rattle.shift.specs.Speeds.{higher_part, first_part}
-use Rattle.shift.proofs.Sides.{part-fits, less-fits, first_fits, higher-fits}
+-- The shift speeds of an accepted sheet have what is asked.
+use Rattle.shift.proofs.Sides.{vehicle-worked}
 use Rattle.shift.proofs.shift_of.Goals as goal
 
-pub scaled-part-requires : goal.scaled-part-requires
-scaled-part-requires c = rw c.exponential-e.ensures (part-fits c.requires)
-
-pub difference-less-requires : goal.difference-less-requires
-difference-less-requires c =
-    let part : c.scaled-part.result ≡ higher_part c.args.v = rw c.exponential-e.ensures at c.scaled-part.ensures in
-    rw (part, c.exactly.ensures) (less-fits c.requires)
-
-pub side-requires : goal.side-requires
-side-requires c =
-    let part : c.scaled-part.result ≡ higher_part c.args.v = rw c.exponential-e.ensures at c.scaled-part.ensures in
-    let less : c.difference-less.result ≡ first_part c.args.v = rw (part, c.exactly.ensures) at c.difference-less.ensures in
-    rw less (first_fits c.requires)
-
-pub side-requires-2 : goal.side-requires-2
-side-requires-2 c =
-    let part : c.scaled-part.result ≡ higher_part c.args.v = rw c.exponential-e.ensures at c.scaled-part.ensures in
-    rw part (higher-fits c.requires)
+pub invariant_of-result : goal.invariant_of-result
+invariant_of-result c = record { worked = rw c.of_sheet.ensures (vehicle-worked c.args.v.sound) }

@@ -7,13 +7,12 @@ abbrev each : List ℕ → ℕ → ℕ
 each least i = get_or least i 0
 
 pub loop-i-init : goal.loop-i-init
-loop-i-init c = record { so_far = omega arith; long = refl; stored = listed-none (each c.args.least) _ }
+loop-i-init c = record { long = refl; stored = listed-none (each c.args.least) _ }
 
 pub loop-i-preserved : goal.loop-i-preserved
 loop-i-preserved c =
     let l = c.loop-i in
     record {
-      so_far = omega arith;
       long = simp length-set l.invariant.long;
       stored = listed_next (each c.args.least) _ l.i l.invariant.stored refl (omega arith);
     }

@@ -11,32 +11,32 @@ use Rattle.stage.proofs.combination.Goals as goal
 
 pub sum-requires : goal.sum-requires
 sum-requires c =
-    let j : SFits w64 c.whole.result = search rules in
-    let k : SFits w64 c.whole-2.result = search rules in
+    let j : SFits w64 c.from.result = search rules in
+    let k : SFits w64 c.from-2.result = search rules in
     let r = c.requires in
-    simp (simp to_z-of_z at c.scaled.ensures, simp to_z-of_z at c.scaled-2.ensures, c.whole.ensures, c.whole-2.ensures)
+    simp (simp to_z-of_z at c.scaled.ensures, simp to_z-of_z at c.scaled-2.ensures, c.from.ensures, c.from-2.ensures)
     (sum_fits (omega arith) (scaled-size (pos c.args.j) r.j_most r.a_size) (scaled-size (pos c.args.k) r.k_most r.b_size))
 
 pub scaled-requires-3 : goal.scaled-requires-3
 scaled-requires-3 c =
-    let l : SFits w64 c.whole-3.result = search rules in
+    let l : SFits w64 c.from-3.result = search rules in
     let r = c.requires in
-    rw (to_z-of_z w64 c.whole-3.result l ∙ c.whole-3.ensures) (scaled_fits (pos c.args.l) (omega arith) r.l_most r.c_size)
+    rw (to_z-of_z w64 c.from-3.result l ∙ c.from-3.ensures) (scaled_fits (pos c.args.l) (omega arith) r.l_most r.c_size)
 
 pub sum-requires-2 : goal.sum-requires-2
 sum-requires-2 c =
-    let j : SFits w64 c.whole.result = search rules in
-    let k : SFits w64 c.whole-2.result = search rules in
-    let l : SFits w64 c.whole-3.result = search rules in
+    let j : SFits w64 c.from.result = search rules in
+    let k : SFits w64 c.from-2.result = search rules in
+    let l : SFits w64 c.from-3.result = search rules in
     let r = c.requires in
     simp (
       c.sum.ensures,
       simp to_z-of_z at c.scaled.ensures,
       simp to_z-of_z at c.scaled-2.ensures,
       simp to_z-of_z at c.scaled-3.ensures,
-      c.whole.ensures,
-      c.whole-2.ensures,
-      c.whole-3.ensures,
+      c.from.ensures,
+      c.from-2.ensures,
+      c.from-3.ensures,
     )
     (sum_fits (omega arith) (sum-size (scaled-size (pos c.args.j) r.j_most r.a_size) (scaled-size (pos c.args.k) r.k_most r.b_size))
     (scaled-size (pos c.args.l) r.l_most r.c_size))

@@ -9,4 +9,4 @@ unfolding marked
 returns c =
     let t = c.args.t in
     let ended : c.loop-i.i ≡ 7 = omega arith in
-    ap (ltb 0) (c.loop-i.invariant.1 ∙ ap (count (mark_at t.above t.not_below)) ended)
+    ap (ltb 0) (c.loop-i.invariant.0 ∙ ap (count (mark_at t.above t.not_below)) ended)

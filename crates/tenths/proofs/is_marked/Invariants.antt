@@ -1,11 +1,8 @@
--- The marks are those of the first i. The measure is what is left of 7.
-use Rattle.std.proofs.Common.{◌≡◌, ◌-◌, ◌≤◌}
+-- The marks are those of the first i.
+use Rattle.std.proofs.Common.{◌≡◌, ◌≤◌}
 use Rattle.shift.specs.Speeds.{count}
 use Rattle.tenths.specs.Choice.{mark_at}
 use Rattle.tenths.proofs.is_marked.Given as goal
 
 abbrev pub invariant-loop-i : goal.invariant-loop-i
-invariant-loop-i l = (l.i ≤ 7) × (l.marks ≡ count (mark_at l.above l.not_below) l.i) × (l.marks ≤ l.i)
-
-abbrev pub decreases-loop-i : goal.decreases-loop-i
-decreases-loop-i l = 7 - l.i
+invariant-loop-i l = (l.marks ≡ count (mark_at l.above l.not_below) l.i) × (l.marks ≤ l.i)

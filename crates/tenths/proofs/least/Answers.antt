@@ -8,7 +8,7 @@ use Rattle.arith.specs.Rounding.{div_down, div_up}
 use Rattle.arith.proofs.Parts.{zs, add_parts}
 use Rattle.arith.proofs.Machine.{zs64, handed}
 use Rattle.arith.proofs.Size.{abs-parts}
-use Rattle.speeds.specs.Upshifts.{largest_side}
+use Rattle.shift.specs.Accepted.{largest_side}
 use Rattle.tenths.specs.Least.{tenth, least_of}
 use Rattle.tenths.proofs.Sizes.{under-most, upon-most}
 use Rattle.tenths.proofs.least.Goals as goal

@@ -11,7 +11,7 @@ pub from_zero-requires : goal.from_zero-requires
 from_zero-requires c =
     let low = c.args.lowest in
     let h = c.requires.0 in
-    let ndv : to_z w64 (of_z w64 c.whole.result) ≡ pos c.args.ndv = handed c.whole.result c.whole.type_inv c.whole.ensures in
+    let ndv : to_z w64 (of_z w64 c.from.result) ≡ pos c.args.ndv = handed c.from.result c.from.type_inv c.from.ensures in
     let lowest : to_z w64 low ≡ pos low = to_z-of_z w64 (pos low) (record { sfits = omega arith }) in
     let up : to_z w64 (of_z w64 c.div_up.result) ≡ div_up (pos low) (pos c.args.ndv) =
     handed c.div_up.result c.div_up.type_inv (rw (ndv, lowest) at c.div_up.ensures) in

@@ -1,5 +1,5 @@
--- The tenths of the shift speeds below i are stored, and the rest is as it was. The measure is what is left of 7.
-use Rattle.std.proofs.Common.{◌≡◌, ℕ, ◌-◌, ◌≤◌, ◌++◌, length, drop}
+-- The tenths of the shift speeds below i are stored, and the rest is as it was.
+use Rattle.std.proofs.Common.{◌≡◌, ℕ, ◌++◌, length, drop}
 use Rattle.walk.specs.Walk.{listed}
 use Rattle.shift.specs.declared.Shift.{Shift}
 use Rattle.tenths.specs.Least.{least_at}
@@ -13,11 +13,7 @@ froms s i = (least_at s i).not_below
 
 abbrev pub invariant-loop-i : goal.invariant-loop-i
 invariant-loop-i l =
-    (l.i ≤ 7)
-    × (length l.above ≡ 7)
-    × (l.above ≡ listed (overs l.s) l.i ++ drop l.i l.initial.above)
+    (length l.above ≡ 7)
+    × (l.above ≡ listed (overs l.v.shift) l.i ++ drop l.i l.initial.above)
     × (length l.not_below ≡ 7)
-    × (l.not_below ≡ listed (froms l.s) l.i ++ drop l.i l.initial.not_below)
-
-abbrev pub decreases-loop-i : goal.decreases-loop-i
-decreases-loop-i l = 7 - l.i
+    × (l.not_below ≡ listed (froms l.v.shift) l.i ++ drop l.i l.initial.not_below)

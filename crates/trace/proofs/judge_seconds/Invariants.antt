@@ -1,10 +1,7 @@
--- The loop of `judge_seconds`: what is found from second 0 on is what is found from second k on. The measure is what is left of n.
-use Rattle.std.proofs.Common.{◌≡◌, ◌-◌, ◌≤◌}
+-- The loop of `judge_seconds`: what is found from second 0 on is what is found from second k on.
+use Rattle.std.proofs.Common.{◌≡◌, ◌-◌}
 use Rattle.trace.specs.Judging.{judge_seconds}
 use Rattle.trace.proofs.judge_seconds.Given as goal
 
 abbrev pub invariant-loop-k : goal.invariant-loop-k
-invariant-loop-k l = (l.k ≤ l.n) × (judge_seconds l.trace 0 l.n ≡ judge_seconds l.trace l.k (l.n - l.k))
-
-abbrev pub decreases-loop-k : goal.decreases-loop-k
-decreases-loop-k l = l.n - l.k
+invariant-loop-k l = judge_seconds l.trace.bytes.now 0 l.trace.seconds ≡ judge_seconds l.trace.bytes.now l.k (l.trace.seconds - l.k)

@@ -12,6 +12,6 @@ use Rattle.weigh.proofs.fuel.Goals as goal
 
 pub scaled-requires : goal.scaled-requires
 scaled-requires c =
-    let k : SFits w64 c.whole.result = search rules in
+    let k : SFits w64 c.from.result = search rules in
     let r = c.requires in
-    rw (to_z-of_z w64 c.whole.result k ∙ c.whole.ensures, c.combination-carbon.ensures) (scaled_fits (pos c.args.k) (omega arith) r.k_most (carbon-size r))
+    rw (to_z-of_z w64 c.from.result k ∙ c.from.ensures, c.combination-carbon.ensures) (scaled_fits (pos c.args.k) (omega arith) r.k_most (carbon-size r))

@@ -1,9 +1,0 @@
--- What is left of the seconds.
-use Rattle.std.proofs.Common.{◌-◌, ◌≤◌}
-use Rattle.gear_figures.proofs.prompting.given.Given as goal
-
-abbrev pub invariant-loop-k : goal.invariant-loop-k
-invariant-loop-k g l = l.k ≤ l.count
-
-abbrev pub decreases-loop-k : goal.decreases-loop-k
-decreases-loop-k g l = l.count - l.k
