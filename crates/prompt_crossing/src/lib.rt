@@ -67,15 +67,19 @@ fn no_engine() -> Engine
 pub fn begin(version: u32, v: VehicleSheet) -> LiveState
     ensures { result ≡ begin_out version v }
 {
-    match prompt::read(version, v) {
-        Ok(v) => LiveState {
-            outcome: Outcome::from(Ok(())),
-            engine: prompt::begin(version, v),
-        },
-        Err(refusal) => LiveState {
-            outcome: Outcome::from(Err(refusal)),
-            engine: no_engine(),
-        },
+    // a refused vehicle returns here: by one `match` of both, the call took 1,043 bytes of stack, and 1,024 are promised
+    let v = match prompt::read(version, v) {
+        Ok(v) => v,
+        Err(refusal) => {
+            return LiveState {
+                outcome: Outcome::from(Err(refusal)),
+                engine: no_engine(),
+            };
+        }
+    };
+    LiveState {
+        outcome: Outcome::from(Ok(())),
+        engine: prompt::begin(version, v),
     }
 }
 
