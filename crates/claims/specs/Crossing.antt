@@ -50,7 +50,7 @@ crossing =
     ∷ (outcome_of (Err (Vehicle 6)) gives outcome 5 6 0 0)
     ∷ (outcome_of (Err (Ratio 2)) gives outcome 6 2 0 0)
     ∷ (outcome_of (Err (Value 3 9)) gives outcome 11 3 9 0)
-    ∷ (outcome_of (Err (Reading 2 NOx Bag)) gives outcome 12 2 3 1)
+    ∷ (outcome_of (Err (Reading 2 3 1)) gives outcome 12 2 3 1)
     ∷ (outcome_of (Err (Humidity 2)) gives outcome 14 2 0 0)
     ∷ (outcome_of (Err ReferenceMass) gives outcome 16 0 0 0)
     ∷ (outcome_of (Err RotatingOrSpeed) gives outcome 17 0 0 0)

@@ -4,7 +4,7 @@
 ghost use Rattle.std.specs.Prelude.{pos, ◌<ℤ◌};
 
 use arith::Ends;
-use refusal::{Gas, Refusal, Side};
+use refusal::Refusal;
 use std::io;
 
 // One of each number: the gear sheet's, the emission sheet's, the dynamometer's and the lot's.
@@ -23,8 +23,8 @@ const REFUSALS: [Refusal; 21] = [
     Refusal::Value { part: 0, field: 12 },
     Refusal::Reading {
         part: 3,
-        gas: Gas::CO2,
-        side: Side::Air,
+        gas: 4,
+        side: 2,
     },
     Refusal::Dilution { part: 1 },
     Refusal::Humidity { part: 2 },

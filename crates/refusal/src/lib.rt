@@ -23,7 +23,8 @@ pub enum Side {
     Air,
 }
 
-// Seconds and parts count from 1, the records of a lot from 0. A field has its number in the sheet's listing.
+// Seconds and parts count from 1, the records of a lot from 0. A field has its number in the sheet's listing. A reading's gas and side are the numbers of its place, whichever they
+// are: who prints a refusal, or hands it on, asks for none that is a gas or a side.
 #[derive(Clone, Copy, PartialEq, Eq, Debug)]
 pub enum Refusal {
     Header,
@@ -37,7 +38,7 @@ pub enum Refusal {
     TooClose { second: u32 },
     Parts,
     Value { part: u32, field: u32 },
-    Reading { part: u32, gas: Gas, side: Side },
+    Reading { part: u32, gas: u32, side: u32 },
     Dilution { part: u32 },
     Humidity { part: u32 },
     PairCounts,
@@ -118,7 +119,7 @@ impl From<Refusal> for Entry {
             Refusal::TooClose { second } => row(9, second, 0, 0),
             Refusal::Parts => row(10, 0, 0, 0),
             Refusal::Value { part, field } => row(11, part, field, 0),
-            Refusal::Reading { part, gas, side } => row(12, part, u32::from(gas), u32::from(side)),
+            Refusal::Reading { part, gas, side } => row(12, part, gas, side),
             Refusal::Dilution { part } => row(13, part, 0, 0),
             Refusal::Humidity { part } => row(14, part, 0, 0),
             Refusal::PairCounts => row(15, 0, 0, 0),

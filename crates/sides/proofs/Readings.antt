@@ -9,6 +9,7 @@ use Rattle.refusal.specs.declared.Gas.TheVariants.{HC, CO, NOx, CO2, NMHC}
 use Rattle.refusal.specs.declared.Side.TheVariants.{Bag, Air}
 use Rattle.refusal.specs.declared.Refusal.{Refusal}
 use Rattle.refusal.specs.declared.Refusal.TheVariants.{Reading}
+use Rattle.refusal.specs.Table.{gas_number, side_number}
 use Rattle.refusal.specs.Judging.{Judged, checked, checked_all, judged_by}
 use Rattle.bag.specs.Gas.{message_at}
 use Rattle.bag.specs.declared.Part.{Part}
@@ -64,7 +65,7 @@ units-held part p sides e =
 
 -- ---- refusals
 both-judged : (part : ℕ) (gas : Gas) (b a : Option Ends) (next : GasSides → Result Sides Refusal) (rest : Judged) → ((both : GasSides) → judged_part (next both) ≡ rest) →
-    judged_part (on_gas (read_gas part gas b a) next) ≡ checked (is_usable b) (Reading part gas Bag) (checked (is_usable a) (Reading part gas Air) rest)
+    judged_part (on_gas (read_gas part gas b a) next) ≡ checked (is_usable b) (Reading part (gas_number gas) (side_number Bag)) (checked (is_usable a) (Reading part (gas_number gas) (side_number Air)) rest)
 unfolding read_gas
 both-judged part gas (Some b) (Some a) next rest h = h _
 both-judged part gas (Some b) None next rest h = refl

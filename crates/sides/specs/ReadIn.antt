@@ -7,6 +7,7 @@ use Rattle.refusal.specs.declared.Side.{Side}
 use Rattle.refusal.specs.declared.Side.TheVariants.{Bag, Air}
 use Rattle.refusal.specs.declared.Refusal.{Refusal}
 use Rattle.refusal.specs.declared.Refusal.TheVariants.{Reading}
+use Rattle.refusal.specs.Table.{gas_number, side_number}
 use Rattle.refusal.specs.Judging.{Judged, Check}
 use Rattle.arith.specs.declared.Ends.{Ends}
 use Rattle.reading.specs.declared.Message.{Message}
@@ -22,8 +23,8 @@ use Rattle.sides.specs.Gases.{each, nothing}
 
 -- a gas of a part, from what its two messages are worth: "bag before air"
 unfoldable pub read_gas : ℕ → Gas → Option Ends → Option Ends → Result GasSides Refusal
-read_gas part gas None air = Err (Reading part gas Bag)
-read_gas part gas (Some in_bag) None = Err (Reading part gas Air)
+read_gas part gas None air = Err (Reading part (gas_number gas) (side_number Bag))
+read_gas part gas (Some in_bag) None = Err (Reading part (gas_number gas) (side_number Air))
 read_gas part gas (Some in_bag) (Some in_air) = Ok (record { bag = in_bag; air = in_air })
 
 -- what follows a gas that was read
@@ -63,7 +64,7 @@ is_usable None = false
 
 -- 12: "reading unusable"
 abbrev pub reading_check : ℕ → Gas → Side → Message → Check
-reading_check part gas side message = record { holds = is_usable (worth_of gas message); refusal = Reading part gas side }
+reading_check part gas side message = record { holds = is_usable (worth_of gas message); refusal = Reading part (gas_number gas) (side_number side) }
 
 abbrev pub gas_checks : ℕ → Part → Gas → List Check
 gas_checks part p gas = reading_check part gas Bag (message_at gas p.bag) ∷ reading_check part gas Air (message_at gas p.air) ∷ []

@@ -52,15 +52,16 @@ pub fn no_gases() -> Gases
 fn read_gas(part: u32, gas: Gas, bag: Option<Ends>, air: Option<Ends>) -> Result<GasSides, Refusal>
     ensures { result ≡ read_gas part gas bag air }
 {
+    let gas = u32::from(gas);
     let bag = bag.ok_or(Refusal::Reading {
         part,
         gas,
-        side: Side::Bag,
+        side: u32::from(Side::Bag),
     })?;
     let air = air.ok_or(Refusal::Reading {
         part,
         gas,
-        side: Side::Air,
+        side: u32::from(Side::Air),
     })?;
     Ok(GasSides { bag, air })
 }
