@@ -3,10 +3,10 @@ use Rattle.std.specs.Prelude.{Bool, cond, ℕ, eqb, pos, None, Option, Some, Ok,
 use Rattle.arith.specs.declared.Ends.{Ends}
 use Rattle.arith.specs.Stages.{exactly}
 use Rattle.refusal.specs.declared.Gas.{Gas}
-use Rattle.refusal.specs.declared.Gas.TheVariants.{HC, CO, NOx, CO2}
+use Rattle.refusal.specs.declared.Gas.TheVariants.{HC, CO, NOx, CO2, NMHC}
 use Rattle.refusal.specs.Judging.{Judged}
 use Rattle.refusal.specs.declared.Refusal.{Refusal}
-use Rattle.bag.specs.Gas.{among}
+use Rattle.bag.specs.Gas.{is_nmhc, among}
 use Rattle.bag.specs.declared.BagSheet.{BagSheet}
 use Rattle.bag.specs.declared.Fuel.{Fuel}
 use Rattle.bag.specs.declared.Limits.{Limits}
@@ -50,19 +50,18 @@ weighted_gases w first second third = each (λ gas. weighted_of w (ends_at gas f
 
 -- "Verdict per gas"
 abbrev pub verdict_at : Gas → Verdicts → Option Verdict
-verdict_at gas v = among gas (Some v.hc) (Some v.co) (Some v.nox) (Some v.co2) v.nmhc
+verdict_at gas v = among gas v.hc v.co v.nox v.co2 v.nmhc
+
+unfoldable pub each_verdict : (Gas → Option Verdict) → Verdicts
+each_verdict f = record { hc = f HC; co = f CO; nox = f NOx; co2 = f CO2; nmhc = f NMHC }
 
 -- 02, M-108: "leaves the fifth absent for the whole test, with no verdict"
 unfoldable pub nmhc_verdict : Bool → Ends → ℕ → Option Verdict
 nmhc_verdict has_nmhc rate limit = cond has_nmhc (Some (verdict_of rate limit)) None
 
--- a verdict of each of the first four, and the fifth gas's
-unfoldable pub each_verdict : (Gas → Verdict) → Option Verdict → Verdicts
-each_verdict f nmhc = record { hc = f HC; co = f CO; nox = f NOx; co2 = f CO2; nmhc = nmhc }
-
 unfoldable pub verdicts_of : Bool → Gases → Limits → Verdicts
 verdicts_of has_nmhc weighted limits =
-    each_verdict (λ gas. verdict_of (ends_at gas weighted) (limit_at gas limits)) (nmhc_verdict has_nmhc weighted.nmhc limits.nmhc)
+    each_verdict (λ gas. cond (is_nmhc gas) (nmhc_verdict has_nmhc weighted.nmhc limits.nmhc) (Some (verdict_of (ends_at gas weighted) (limit_at gas limits))))
 
 -- "Fuel .. from the weighted ends"
 abbrev pub fuel_in : Fuel → Gases → Ends

@@ -25,13 +25,13 @@ pub struct Parts {
     pub third: PartResult,
 }
 
-// A gas that the test does not have has no verdict: only the fifth may be such.
+// A gas that the test does not have has no verdict. In a result only the fifth may be such; what numbers verdicts takes any.
 #[derive(Clone, Copy)]
 pub struct Verdicts {
-    pub hc: Verdict,
-    pub co: Verdict,
-    pub nox: Verdict,
-    pub co2: Verdict,
+    pub hc: Option<Verdict>,
+    pub co: Option<Verdict>,
+    pub nox: Option<Verdict>,
+    pub co2: Option<Verdict>,
     pub nmhc: Option<Verdict>,
 }
 
@@ -113,10 +113,10 @@ fn verdicts_of(has_nmhc: bool, weighted: Gases, limits: Limits) -> Verdicts
     ensures { result ≡ verdicts_of has_nmhc weighted limits }
 {
     Verdicts {
-        hc: weigh::verdict_of(weighted.hc, limits.hc),
-        co: weigh::verdict_of(weighted.co, limits.co),
-        nox: weigh::verdict_of(weighted.nox, limits.nox),
-        co2: weigh::verdict_of(weighted.co2, limits.co2),
+        hc: Some(weigh::verdict_of(weighted.hc, limits.hc)),
+        co: Some(weigh::verdict_of(weighted.co, limits.co)),
+        nox: Some(weigh::verdict_of(weighted.nox, limits.nox)),
+        co2: Some(weigh::verdict_of(weighted.co2, limits.co2)),
         nmhc: nmhc_verdict(has_nmhc, weighted.nmhc, limits.nmhc),
     }
 }

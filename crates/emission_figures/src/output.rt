@@ -47,11 +47,10 @@ fn verdict(rt: &impl Print, v: Verdict) -> io::Result<()> {
 
 fn verdicts(rt: &impl Print, v: Verdicts) -> io::Result<()> {
     print!(rt; "\nverdicts")?;
-    for gas in [v.hc, v.co, v.nox, v.co2] {
-        verdict(rt, gas)?;
-    }
-    if let Some(nmhc) = v.nmhc {
-        verdict(rt, nmhc)?;
+    for gas in [v.hc, v.co, v.nox, v.co2, v.nmhc] {
+        if let Some(gas) = gas {
+            verdict(rt, gas)?;
+        }
     }
     Ok(())
 }

@@ -45,10 +45,10 @@ impl From<Verdicts> for VerdictNumbers {
     #[tactic(auto, unfolding(crate::specs::Record::each_number, crate::specs::Record::verdict_numbers))]
     fn from(v: Verdicts) -> VerdictNumbers {
         VerdictNumbers {
-            hc: verdict_number(Some(v.hc)),
-            co: verdict_number(Some(v.co)),
-            nox: verdict_number(Some(v.nox)),
-            co2: verdict_number(Some(v.co2)),
+            hc: verdict_number(v.hc),
+            co: verdict_number(v.co),
+            nox: verdict_number(v.nox),
+            co2: verdict_number(v.co2),
             nmhc: verdict_number(v.nmhc),
         }
     }
