@@ -14,7 +14,7 @@ use std::io;
 
 // Which part of a number its next digit belongs to.
 #[derive(Clone, Copy)]
-enum Part {
+pub enum Part {
     Whole,
     Decimals,
     Divisor,
@@ -27,7 +27,7 @@ pub struct Number {
     pub over: u64,
     pub is_negative: bool,
     pub unit: Option<u8>,
-    part: Part,
+    pub part: Part,
 }
 
 const NOTHING: Number = Number {
@@ -82,6 +82,8 @@ fn with_byte(x: Number, byte: u8) -> Number {
             is_negative: true,
             ..x
         },
+        // no letter, and no unit
+        0 => x,
         _ => Number {
             unit: x.unit.or(Some(byte)),
             ..x
@@ -91,7 +93,7 @@ fn with_byte(x: Number, byte: u8) -> Number {
 
 // The numbers of a case, by their places.
 #[derive(Clone, Copy)]
-pub struct Numbers([Number; 401]);
+pub struct Numbers(pub [Number; 401]);
 
 impl Numbers {
     pub fn new() -> Self {
@@ -119,9 +121,9 @@ pub fn word(n: u64) -> u32 {
 
 // A number and its place, as far as they are read.
 #[derive(Clone, Copy)]
-struct Reader {
-    place: usize,
-    number: Number,
+pub struct Reader {
+    pub place: usize,
+    pub number: Number,
 }
 
 // A number before `=` is a place. A space or the line's end ends a number, and the next one's place is the next.
