@@ -5,6 +5,7 @@ use Prim.Native.Nat.{ℕ, zero, suc, ◌+◌, ◌-◌, ◌*◌, ◌<◌, ◌≤�
 use native.Mathlib.Omega.{arith}
 use lib.ListN.{length, get_or, set, length-set}
 use lib.Seq.{get_or-set_same, get_or-set_other}
+use Rattle.walk.proofs.Same.{in_turn-same}
 use Rattle.walk.proofs.Walk.{in_turn-next, in_turn-keeps}
 use Rattle.lanes.specs.Lanes.{lane_at, line_by}
 
@@ -33,6 +34,11 @@ module _ {f : List ℕ → ℕ → ℕ} {k : ℕ} {m₀ m : List ℕ} {j : ℕ} 
   line-all over =
       let all : j ≡ 16 = omega arith in
       before.line ∙ ap (line_by f k m₀) all
+
+-- what says the same of each lane puts the same line
+pub line-same : (f g : List ℕ → ℕ → ℕ) → ((m : List ℕ) (j : ℕ) → j < 16 → f m j ≡ g m j) → (k : ℕ) (m : List ℕ) (lanes : ℕ) → lanes ≤ 16 → line_by f k m lanes ≡ line_by g k m lanes
+unfolding line_by
+line-same f g same k m lanes few = in_turn-same _ _ m lanes (λ m j l. ap (set m (16 * k + j)) (same m j (omega arith)))
 
 module _ (f : List ℕ → ℕ → ℕ) (k : ℕ) where
   pub line-length : (m : List ℕ) (lanes : ℕ) → length (line_by f k m lanes) ≡ length m

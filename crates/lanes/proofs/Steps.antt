@@ -12,7 +12,7 @@ use Rattle.row.specs.declared.Rule.TheVariants.{NoFirst, NoShift, NoDrop, OneSte
 use Rattle.row.specs.Corrections.{uncapped, capped, cap_after, ruled}
 use Rattle.lanes.specs.Lanes.{lane_at, line_by}
 use Rattle.lanes.specs.Corrections.{cap_lines, rule_line, rule_lines, LaneStepped, Stepped}
-use Rattle.lanes.proofs.Lanes.{line-length, line_other, line_at}
+use Rattle.lanes.proofs.Lanes.{line-same, line-length, line_other, line_at}
 
 -- the cap of the next second in place of this one's: in a deceleration it is the same, and elsewhere none is looked at
 capped-after : (flags cap own : ℕ) → capped flags (cap_after flags cap own) own ≡ capped flags cap own
@@ -22,6 +22,18 @@ capped-after flags cap own = go (deceleration flags) refl
     go : (d : Bool) → deceleration flags ≡ d → cond d (min own (cond (acceleration flags) own (cond d cap uncapped))) own ≡ cond d (min own cap) own
     go true e = rw (deceleration-no-acceleration flags e)
     go false e = refl
+
+-- correction 1 by the gears of second k, from the line in which they were put
+pub cap_lines-by : (flags k : ℕ) (lanes blank line kept caps put : List ℕ) → 16 ≤ length blank → line ≡ line_by (λ m j. lane_at lanes j k) 0 blank 16
+    → caps ≡ line_by (λ m j. cap_after flags (lane_at m j 0) (lane_at line j 0)) 0 kept 16
+    → put ≡ line_by (λ m j. capped flags (lane_at m j 0) (lane_at line j 0)) 3 caps 16 → put ≡ cap_lines flags lanes k kept
+cap_lines-by flags k lanes blank line kept caps put room is a b =
+    let same : (j : ℕ) → j < 16 → lane_at line j 0 ≡ lane_at lanes j k =
+    λ j l. ap (λ (m : List ℕ). lane_at m j 0) is ∙ line_at (λ m j. lane_at lanes j k) 0 blank (omega (arith, room)) j l (λ m' _. refl) in
+    b
+    ∙ line-same _ _ (λ m j l. ap (capped flags (lane_at m j 0)) (same j l)) 3 caps 16 (omega arith)
+    ∙ ap (λ (m : List ℕ). line_by (λ m j. capped flags (lane_at m j 0) (lane_at lanes j k)) 3 m 16)
+    (a ∙ line-same _ _ (λ m j l. ap (cap_after flags (lane_at m j 0)) (same j l)) 0 kept 16 (omega arith))
 
 -- correction 2 does not look at the second before
 pub no-before : (first : Bool) (former flags before own : ℕ) → ruled NoFirst first former flags before own ≡ ruled NoFirst first former flags 0 own

@@ -12,24 +12,32 @@ ghost use Rattle.lanes.specs.Corrections.{rule_line, cap_lines, rule_lines, Step
 use house::HouseFile;
 use row::Rule;
 
-// What is kept of the second before: line 0 has the cap of the next second, 1, 2 and 4 the gears after corrections 3, 4 and 5; line 3 has the gear after correction 2 on the way.
-// Each loop over the lanes stores in one line alone, so that the compiler works on all sixteen at once.
-fn put_cap(flags: u8, lanes: &[u8], k: usize, kept: &mut [u8; 80])
+// The gears of second k before corrections. Two lines are put from them, in one phase or another: read here first, all sixteen are fetched at once, and not lane by lane in each phase.
+fn read_second(lanes: &[u8], k: usize, own: &mut [u8; 16])
     requires { 16 * k + 16 ≤ length lanes.now }
-    ensures { kept.new ≡ line_by (λ m j. cap_after flags (lane_at m j 0) (lane_at lanes.now j k)) 0 kept.old 16 }
+    ensures { own.new ≡ line_by (λ m j. lane_at lanes.now j k) 0 own.old 16 }
 {
     for j in 0..16 {
-        kept[16 * 0 + j] = row::cap_after(flags, kept[16 * 0 + j], lanes[16 * k + j]);
+        own[16 * 0 + j] = lanes[16 * k + j];
+    }
+}
+
+// What is kept of the second before: line 0 has the cap of the next second, 1, 2 and 4 the gears after corrections 3, 4 and 5; line 3 has the gear after correction 2 on the way.
+// Each loop over the lanes stores in one line alone, so that the compiler works on all sixteen at once.
+fn put_cap(flags: u8, own: &[u8; 16], kept: &mut [u8; 80])
+    ensures { kept.new ≡ line_by (λ m j. cap_after flags (lane_at m j 0) (lane_at own.now j 0)) 0 kept.old 16 }
+{
+    for j in 0..16 {
+        kept[16 * 0 + j] = row::cap_after(flags, kept[16 * 0 + j], own[16 * 0 + j]);
     }
 }
 
 // Correction 1. The cap of the next second is that of this one where it counts, in a deceleration.
-fn put_capped(flags: u8, lanes: &[u8], k: usize, kept: &mut [u8; 80])
-    requires { 16 * k + 16 ≤ length lanes.now }
-    ensures { kept.new ≡ line_by (λ m j. capped flags (lane_at m j 0) (lane_at lanes.now j k)) 3 kept.old 16 }
+fn put_capped(flags: u8, own: &[u8; 16], kept: &mut [u8; 80])
+    ensures { kept.new ≡ line_by (λ m j. capped flags (lane_at m j 0) (lane_at own.now j 0)) 3 kept.old 16 }
 {
     for j in 0..16 {
-        kept[16 * 3 + j] = row::capped(flags, kept[16 * 0 + j], lanes[16 * k + j]);
+        kept[16 * 3 + j] = row::capped(flags, kept[16 * 0 + j], own[16 * 0 + j]);
     }
 }
 
@@ -71,8 +79,10 @@ fn cap_second(flags: u8, lanes: &[u8], k: usize, kept: &mut [u8; 80])
     requires { 16 * k + 16 ≤ length lanes.now }
     ensures { kept.new ≡ cap_lines flags lanes.now k kept.old }
 {
-    put_cap(flags, lanes, k, kept);
-    put_capped(flags, lanes, k, kept);
+    let mut own = [0; 16];
+    read_second(lanes, k, &mut own);
+    put_cap(flags, &own, kept);
+    put_capped(flags, &own, kept);
 }
 
 // and corrections 2 to 5.

@@ -5,4 +5,4 @@ use Rattle.lanes.proofs.Lanes.{Line}
 use Rattle.lanes.proofs.put_capped.Given as goal
 
 abbrev pub invariant-loop-j : goal.invariant-loop-j
-invariant-loop-j l = Line (λ m j. capped l.flags (lane_at m j 0) (lane_at l.lanes j l.k)) 3 l.initial.kept l.kept l.j
+invariant-loop-j l = Line (λ m j. capped l.flags (lane_at m j 0) (lane_at l.own j 0)) 3 l.initial.kept l.kept l.j
